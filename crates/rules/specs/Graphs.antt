@@ -1,0 +1,51 @@
+-- Document 01, 'Graph': the parity-check graph, and codewords.
+use mathlib.Core.Path.{_≡_}
+use mathlib.Core.Bool.{Bool, false, xor}
+use Prim.Native.Nat.{ℕ, suc, _+_, _-_, _≤_, _<_}
+use lib.Dec.{eqb, ltb}
+use Rattle.rules.specs.Ranges.{fold, count, first}
+
+-- 'Variables are numbered 0 to n-1, checks 0 to m-1. Two u16 lists hold the graph: m+1 row starts, and E columns in check order.'
+pub record Graph : Type 0 where
+  pub variables : ℕ    -- n
+  pub checks : ℕ       -- m
+  pub entries : ℕ      -- E
+  pub start : ℕ → ℕ
+  pub column : ℕ → ℕ
+
+-- How many entries check i has.
+abbrev pub checkDegree : Graph → ℕ → ℕ
+checkDegree G i = G .start (suc i) - G .start i
+
+-- How many entries variable v has.
+unfoldable pub variableDegree : Graph → ℕ → ℕ
+variableDegree G v = count (λ e. eqb (G .column e) v) 0 (G .entries)
+
+-- The check that entry e belongs to: the first whose row ends after e.
+unfoldable pub checkOf : Graph → ℕ → ℕ
+checkOf G e = first (λ i. ltb e (G .start (suc i))) 0 (G .checks)
+
+-- 'Admitted: n from 2 to 8,192; m from 1 to 8,192; E at most 32,768; check degree 2 to 64; variable degree 1 to 32', with
+-- starts that begin at 0 and end at E, columns below n, and 'each row's columns strictly rising'.
+pub record Admitted (G : Graph) : Type 0 where
+  pub variables : (2 ≤ G .variables) × (G .variables ≤ 8192)
+  pub checks : (1 ≤ G .checks) × (G .checks ≤ 8192)
+  pub entries : G .entries ≤ 32768
+  pub begins : G .start 0 ≡ 0
+  pub ends : G .start (G .checks) ≡ G .entries
+  pub within : (e : ℕ) → e < G .entries → G .column e < G .variables
+  pub rising : (i e : ℕ) → i < G .checks → G .start i ≤ e → suc e < G .start (suc i) → G .column e < G .column (suc e)
+  pub checkDegrees : (i : ℕ) → i < G .checks → (G .start i + 2 ≤ G .start (suc i)) × (G .start (suc i) ≤ G .start i + 64)
+  pub variableDegrees : (v : ℕ) → v < G .variables → (1 ≤ variableDegree G v) × (variableDegree G v ≤ 32)
+
+-- Whether check i has an odd number of ones among the bits b.
+unfoldable pub oddCheck : Graph → (ℕ → Bool) → ℕ → Bool
+oddCheck G b i = fold xor false (λ e. b (G .column e)) (G .start i) (checkDegree G i)
+
+-- 'A list of n bits is a codeword when every check has an even number of ones.'
+abbrev pub Codeword : Graph → (ℕ → Bool) → Type 0
+Codeword G b = (i : ℕ) → i < G .checks → oddCheck G b i ≡ false
+
+-- 'The unsatisfied checks are how many checks have an odd number of ones.'
+unfoldable pub unsatisfied : Graph → (ℕ → Bool) → ℕ
+unsatisfied G b = count (oddCheck G b) 0 (G .checks)

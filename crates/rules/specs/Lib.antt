@@ -1,0 +1,4 @@
+pub mod Ranges
+pub mod Levels
+pub mod Graphs
+pub mod Refusals
