@@ -85,7 +85,14 @@ module _ {A : Type 0} (op : A → A → A) (z : A) (M : Monoid op z) where
           → op (fold op z f a n) (f (a + n)) ≡ op (op (fold op z (but z e f) a n) (but z e f (a + n))) (f e)
       go (yes q) ih =
           rw (q, but-same z e f, M .idr (fold op z (but z e f) a n), fold-ext op z (but z e f) f a n (λ k lo hi. but-other z e f k (omega arith)))
-      go (no q) ih = rw (but-other z e f (a + n) q, ih (omega arith), M .assoc, M .assoc, M .comm (f e) (f (a + n)))
+      go (no q) ih =
+          rw (
+            but-other z e f (a + n) q,
+            ih (omega arith),
+            M .assoc (fold op z (but z e f) a n) (f e) (f (a + n)),
+            M .assoc (fold op z (but z e f) a n) (f (a + n)) (f e),
+            M .comm (f e) (f (a + n)),
+          )
 
 -- ---- counts
 
@@ -124,6 +131,7 @@ zero-count test (suc n) e k l = go (ℕ-discrete k n) (zero-count test n (omega 
     none : (b : Bool) → one b ≡ 0 → b ≡ false
     none true h = absurd (omega arith)
     none false h = refl
+
     go : Dec (k ≡ n) → (k < n → test k ≡ false) → test k ≡ false
     go (yes p) ih = none (test k) (ap (λ j. one (test j)) (p ∙ sym (zero-add n)) ∙ omega arith)
     go (no p) ih = ih (omega arith)
@@ -144,10 +152,11 @@ first-is test t (suc n) = go (test t) refl (first-is test (suc t) n)
     go : (b : Bool) → test t ≡ b → First test (suc t) n (first test (suc t) n) → First test t (suc n) (cond b t (first test (suc t) n))
     go true p f = record { low = omega arith; high = omega arith; before = λ k l u. absurd (omega arith); found = λ u. p }
     go false p f = record {
-        low = omega (arith, f .low);
-        high = omega (arith, f .high);
-        before = λ k l u. earlier k l u (ℕ-discrete k t);
-        found = λ u. f .found (omega arith) }
+      low = omega (arith, f .low);
+      high = omega (arith, f .high);
+      before = λ k l u. earlier k l u (ℕ-discrete k t);
+      found = λ u. f .found (omega arith);
+    }
       where
         earlier : (k : ℕ) → t ≤ k → k < first test (suc t) n → Dec (k ≡ t) → test k ≡ false
         earlier k l u (yes q) = ap test q ∙ p
@@ -159,8 +168,10 @@ first-only {test} {t} {n} {r} {s} a b = go (decLt r s) (decLt s r)
   where
     clash : (b : Bool) → b ≡ true → b ≡ false → ⊥
     clash b p q = let z : _≡_ {A = Bool} true false = sym p ∙ q in let y : _≡_ {A = ℕ} 0 1 = cc in absurd (omega arith)
+
     less : {r s : ℕ} → First test t n r → First test t n s → r < s → ⊥
     less {r} {s} a b l = clash (test r) (a .found (omega (arith, b .high))) (b .before r (a .low) l)
+
     go : Dec (r < s) → Dec (s < r) → r ≡ s
     go (yes p) q = absurd (less a b p)
     go (no p) (yes q) = absurd (less b a q)

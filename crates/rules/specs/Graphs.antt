@@ -7,9 +7,9 @@ use Rattle.rules.specs.Ranges.{fold, count, first}
 
 -- 'Variables are numbered 0 to n-1, checks 0 to m-1. Two u16 lists hold the graph: m+1 row starts, and E columns in check order.'
 pub record Graph : Type 0 where
-  pub variables : ℕ    -- n
-  pub checks : ℕ       -- m
-  pub entries : ℕ      -- E
+  pub variables : ℕ  -- n
+  pub checks : ℕ  -- m
+  pub entries : ℕ  -- E
   pub start : ℕ → ℕ
   pub column : ℕ → ℕ
 

@@ -2,3 +2,8 @@ pub mod Ranges
 pub mod Levels
 pub mod Graphs
 pub mod Refusals
+pub mod Nodes
+pub mod Sequence
+pub mod Symmetry
+pub mod Theorems
+pub mod Trials

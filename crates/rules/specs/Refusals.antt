@@ -13,21 +13,21 @@ numbered n p = record { number = n; place = p }
 
 -- 'Every refusal carries a number and a place. Place is 0 unless given.'
 abbrev pub paper : Refusal → Numbered
-paper (Form p) = numbered 1 p       -- a line of another form, or a missing line or LF
-paper (Count p) = numbered 2 p      -- a count outside its limits, too many entries, an oversized file
-paper (Range p) = numbered 3 p      -- a column, a check number, or a number of a sheet out of range
-paper (Order p) = numbered 4 p      -- a column not above its predecessor, an entry not after the one above
-paper (Degree p) = numbered 5 p     -- a degree outside its limits
-paper Buffer = numbered 6 0         -- a lent buffer too short
-paper (Start p) = numbered 7 p      -- a start that does not begin at 0, falls, or does not end at E
-paper Precision = numbered 8 0      -- precisions not admitted
-paper Option = numbered 9 0         -- an offset above 1 or limit above 255
-paper Scaling = numbered 10 0       -- gain or variance not finite and above zero
-paper Factor = numbered 11 0        -- factor infinite or zero
-paper (Value p) = numbered 12 p     -- a value infinite or NaN
-paper (Length p) = numbered 13 p    -- other than n values, other than n bits
-paper (RunText p) = numbered 14 p   -- a line of the run text
-paper (Bit p) = numbered 15 p       -- a byte not 0 or 1
+paper (Form p) = numbered 1 p  -- a line of another form, or a missing line or LF
+paper (Count p) = numbered 2 p  -- a count outside its limits, too many entries, an oversized file
+paper (Range p) = numbered 3 p  -- a column, a check number, or a number of a sheet out of range
+paper (Order p) = numbered 4 p  -- a column not above its predecessor, an entry not after the one above
+paper (Degree p) = numbered 5 p  -- a degree outside its limits
+paper Buffer = numbered 6 0  -- a lent buffer too short
+paper (Start p) = numbered 7 p  -- a start that does not begin at 0, falls, or does not end at E
+paper Precision = numbered 8 0  -- precisions not admitted
+paper Option = numbered 9 0  -- an offset above 1 or limit above 255
+paper Scaling = numbered 10 0  -- gain or variance not finite and above zero
+paper Factor = numbered 11 0  -- factor infinite or zero
+paper (Value p) = numbered 12 p  -- a value infinite or NaN
+paper (Length p) = numbered 13 p  -- other than n values, other than n bits
+paper (RunText p) = numbered 14 p  -- a line of the run text
+paper (Bit p) = numbered 15 p  -- a byte not 0 or 1
 
 -- The refusal where the test fails.
 abbrev pub unless : Bool → Refusal → Judged

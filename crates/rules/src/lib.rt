@@ -37,12 +37,27 @@ impl Refusal {
             Refusal::Range(place) => Numbered { number: 3, place },
             Refusal::Order(place) => Numbered { number: 4, place },
             Refusal::Degree(place) => Numbered { number: 5, place },
-            Refusal::Buffer => Numbered { number: 6, place: 0 },
+            Refusal::Buffer => Numbered {
+                number: 6,
+                place: 0,
+            },
             Refusal::Start(place) => Numbered { number: 7, place },
-            Refusal::Precision => Numbered { number: 8, place: 0 },
-            Refusal::Option => Numbered { number: 9, place: 0 },
-            Refusal::Scaling => Numbered { number: 10, place: 0 },
-            Refusal::Factor => Numbered { number: 11, place: 0 },
+            Refusal::Precision => Numbered {
+                number: 8,
+                place: 0,
+            },
+            Refusal::Option => Numbered {
+                number: 9,
+                place: 0,
+            },
+            Refusal::Scaling => Numbered {
+                number: 10,
+                place: 0,
+            },
+            Refusal::Factor => Numbered {
+                number: 11,
+                place: 0,
+            },
             Refusal::Value(place) => Numbered { number: 12, place },
             Refusal::Length(place) => Numbered { number: 13, place },
             Refusal::RunText(place) => Numbered { number: 14, place },

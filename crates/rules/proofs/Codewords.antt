@@ -1,0 +1,111 @@
+-- Demand 3 over levels.
+use mathlib.Core.Path.{_≡_, refl, sym, ap, ap₂, _∙_}
+use mathlib.Core.Bool.{Bool, false, cond, xor}
+use mathlib.Core.List.{List}
+use Prim.Native.Nat.{ℕ, zero, suc, _≤_, _<_, min}
+use native.Mathlib.Omega.{arith}
+use lib.Dec.{eqb}
+use lib.ListN.{getD}
+use lib.IntN.{ℤ, pos}
+use Rattle.rules.specs.Ranges.{tabulate}
+use Rattle.rules.specs.Levels.{Level, plusZero}
+use Rattle.rules.specs.Graphs.{Graph, Admitted, Codeword}
+use Rattle.rules.specs.Nodes.{Offsets, firstMessage, firstBit, fromCheck, posterior, bitOf, outgoingSum, outgoing, fromVariable}
+use Rattle.rules.specs.Sequence.{Scheme, State, signPreserving, levelAt, bitAt, begun, sentIn, sent, iterated, next, state, unsatisfiedIn, stop, final, report}
+use Rattle.rules.specs.declared.Report.{Report}
+use Rattle.rules.specs.declared.Verdict.the-variants.{Codeword as codeword, Stopped as stopped}
+use Rattle.rules.specs.Symmetry.{turned, opposite, Reversed, Mirrored, SameRun, Symmetric, Symmetry}
+use Rattle.rules.proofs.Ranges.{getD-tabulate, first-ext}
+use Rattle.rules.proofs.Signs.{bit-turned, outgoing-turned}
+use Rattle.rules.proofs.Parity.{outgoing-nonzero}
+use Rattle.rules.proofs.Turns.{check-mirrored, only-codewords, posterior-turned, outgoingSum-turned, unsatisfied-turned}
+use Rattle.rules.proofs.Simulation.{state-number, Simulates, Mirrors, states-mirror}
+
+module _ (G : Graph) (ok : Admitted G) (Nq : ℕ) (φ : Offsets) (c : ℕ → Bool) (y y′ : ℕ → Level) (hy : Reversed G c y y′) where
+  R : Scheme
+  R = signPreserving G Nq φ y
+
+  R′ : Scheme
+  R′ = signPreserving G Nq φ y′
+
+  module _ (w : Codeword G c) where
+    simulates : Simulates G G R R′ (λ e. e) (λ v. v) (λ e. turned (c (G .column e))) (λ v. opposite (c v))
+    unfolding R R′ signPreserving firstMessage fromVariable turned
+    simulates = record {
+      entries = λ e u. u;
+      variables = λ v u. u;
+      firstMessage = λ e u. ap (λ (l : Level). record { minus = l .minus; magnitude = min (l .magnitude) Nq }) (hy (G .column e) (ok .within e u));
+      check = check-mirrored G ok c w;
+      sum = λ C C′ h v u. posterior-turned G ok c y y′ C C′ hy h v u;
+      variable = λ C C′ h e u. ap (outgoing Nq φ) (outgoingSum-turned G ok c y y′ C C′ hy h e u)
+          ∙ outgoing-turned Nq φ (c (G .column e)) (outgoingSum G y C e) (outgoing-nonzero G y C e u);
+    }
+
+    mirrors : (t : ℕ) → Mirrors G G R R′ (λ e. e) (λ v. v) (λ e. turned (c (G .column e))) (λ v. opposite (c v)) (state G R t) (state G R′ t)
+    mirrors = states-mirror G G R R′ (λ e. e) (λ v. v) (λ e. turned (c (G .column e))) (λ v. opposite (c v)) simulates
+
+    mirrored : (t : ℕ) → Mirrored G c R R′ t
+    mirrored t = record {
+      variableMessages = mirrors t .variableMessages;
+      checkMessages = λ l. mirrors t .checkMessages (omega (arith, state-number G R t));
+      sums = λ l. mirrors t .sums (omega (arith, state-number G R t));
+    }
+
+    bits-turned : (t v : ℕ) → v < G .variables → bitAt (state G R′ t .bits) v ≡ xor (c v) (bitAt (state G R t .bits) v)
+    unfolding R R′ signPreserving state begun next iterated firstBit turned
+    bits-turned zero v u =
+        getD-tabulate (firstBit y′) (G .variables) v false u ∙ ap (λ l. l .minus) (hy v u)
+        ∙ ap (xor (c v)) (sym (getD-tabulate (firstBit y) (G .variables) v false u))
+    bits-turned (suc t) v u =
+        getD-tabulate (λ v. bitOf (getD S′ v (pos 0)) (y′ v .minus)) (G .variables) v false u
+        ∙ ap₂ bitOf (mirrors (suc t) .sums (omega arith) v u) (ap (λ l. l .minus) (hy v u))
+        ∙ bit-turned (c v) (getD S v (pos 0)) (y v .minus)
+        ∙ ap (xor (c v)) (sym (getD-tabulate (λ v. bitOf (getD S v (pos 0)) (y v .minus)) (G .variables) v false u))
+      where
+        S : List ℤ
+        S = state G R (suc t) .sums
+
+        S′ : List ℤ
+        S′ = state G R′ (suc t) .sums
+
+    unsatisfied-same : (t : ℕ) → unsatisfiedIn G R′ t ≡ unsatisfiedIn G R t
+    unfolding unsatisfiedIn
+    unsatisfied-same t = unsatisfied-turned G ok c w (bitAt (state G R t .bits)) (bitAt (state G R′ t .bits)) (bits-turned t)
+
+    same-run : (limit : ℕ) → SameRun G c R R′ limit
+    unfolding stop final report
+    same-run limit = record {
+      report = ap₂ reported stops (ap (unsatisfiedIn G R′) stops ∙ unsatisfied-same (stop G R limit));
+      bits = λ v u. ap (λ t. bitAt (state G R′ t .bits) v) stops ∙ bits-turned (stop G R limit) v u;
+    }
+      where
+        reported : ℕ → ℕ → Report
+        reported t k = record { verdict = cond (eqb k 0) codeword stopped; iterations = t; unsatisfied = k }
+
+        stops : stop G R′ limit ≡ stop G R limit
+        stops = first-ext (λ t. eqb (unsatisfiedIn G R′ t) 0) (λ t. eqb (unsatisfiedIn G R t) 0) (λ t. ap (λ k. eqb k 0) (unsatisfied-same t)) 0 limit
+
+  -- the check messages of iteration 1 tell whether c is a codeword
+  only : ((t : ℕ) → Mirrored G c R R′ t) → Codeword G c
+  unfolding R R′ signPreserving state begun next iterated
+  only m = only-codewords G ok c (levelAt q) (levelAt q′) (m 0 .variableMessages)
+      (λ e u. sym (getD-tabulate (fromCheck G (levelAt q′)) (G .entries) e plusZero u)
+      ∙ m 1 .checkMessages (omega arith) e u
+      ∙ ap (turned (c (G .column e))) (getD-tabulate (fromCheck G (levelAt q)) (G .entries) e plusZero u))
+    where
+      q : List Level
+      q = sent G R (begun G R)
+
+      q′ : List Level
+      q′ = sent G R′ (begun G R′)
+
+pub symmetry : Symmetry
+unfolding R R′
+symmetry G ok Nq φ c y y′ hy = record {
+  exactly = (mirrored G ok Nq φ c y y′ hy, only G ok Nq φ c y y′ hy);
+  runs = same-run G ok Nq φ c y y′ hy;
+  nonzero = (
+    (λ t. outgoing-nonzero G y (levelAt (state G (signPreserving G Nq φ y) t .checkMessages))),
+    (λ t. outgoing-nonzero G y′ (levelAt (state G (signPreserving G Nq φ y′) t .checkMessages))),
+  );
+}
