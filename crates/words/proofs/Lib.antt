@@ -1,0 +1,4 @@
+pub mod Words
+pub mod Filling
+pub mod Signed
+pub mod Patterns

@@ -1,0 +1,17 @@
+use mathlib.Core.Path.{_∙_}
+use borrow.Author.Needs.{needs}
+use Rattle.words.proofs.Patterns.{nan-is, nan-pattern, no-nan-pattern}
+use Rattle.words.proofs.float_of.Statement.{statement}
+use Rattle.words.proofs.float_of.Tie as tie
+
+float-from-bits-result : tie.Need-float-from-bits-result
+float-from-bits-result c = no-nan-pattern (c .before .args .bits) (c .if1 .left)
+
+returns : tie.Need-returns
+returns c = nan-is ∙ nan-pattern (c .before .args .bits) (c .if1 .taken)
+
+returns-2 : tie.Need-returns-2
+returns-2 c = search needs
+
+pub float-of-spec : {M : Type 1} → statement M
+float-of-spec = tie.close (tie.spec float-from-bits-result returns returns-2)
