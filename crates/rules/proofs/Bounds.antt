@@ -16,19 +16,10 @@ use Rattle.rules.specs.Graphs.{Graph, Admitted, checkDegree, variableDeg
 use Rattle.rules.specs.Nodes.{Offsets, firstMessage, others, fromCheck, signed, contribution, extra, channelPart, share, posterior, outgoingMagnitude, outgoing, outgoingSum, fromVariable}
 use Rattle.rules.specs.Sequence.{Scheme, State, signPreserving, levelAt, begun, sentIn, sent, iterated, next, state}
 use Rattle.rules.specs.Theorems.{MessagesWithin, largestSum, SumsBounded, BoundReached}
-use Rattle.rules.proofs.Ranges.{but-other, fold-ext, fold-map, getD-tabulate}
-use Rattle.rules.proofs.Rows.{row-within, row-entries}
+use Rattle.rules.proofs.Ranges.{least-below, but-other, fold-ext, fold-map, getD-tabulate}
+use Rattle.rules.proofs.Rows.{rowed, row-within, row-entries}
 
 -- ---- messages
-
-least-below : (f : ℕ → ℕ) (z a n k : ℕ) → a ≤ k → k < a + n → fold min z f a n ≤ f k
-unfolding fold
-least-below f z a zero k l u = absurd (omega arith)
-least-below f z a (suc n) k l u = go (ℕ-discrete k (a + n)) (least-below f z a n k l)
-  where
-    go : Dec (k ≡ a + n) → (k < a + n → fold min z f a n ≤ f k) → min (fold min z f a n) (f (a + n)) ≤ f k
-    go (yes p) ih = rw p (omega arith)
-    go (no p) ih = omega (arith, ih (omega arith))
 
 -- another entry of the row bounds the least
 check-within : (G : Graph) → Admitted G → (N : ℕ) (q : ℕ → Level) → ((k : ℕ) → k < G .entries → q k .magnitude ≤ N)
@@ -43,13 +34,13 @@ check-within G ok N q h e u = go (ℕ-discrete e a)
     a = G .start i
 
     r : (i < G .checks) × (a ≤ e) × (e < G .start (suc i))
-    r = row-within G ok e u
+    r = row-within G (rowed ok) e u
 
     sizes : ℕ → ℕ
     sizes k = q k .magnitude
 
     by : (k : ℕ) → k ≢ e → a ≤ k → k < a + checkDegree G i → fold min 127 (but 127 e sizes) a (checkDegree G i) ≤ N
-    by k p l m = omega (arith, least-below (but 127 e sizes) 127 a (checkDegree G i) k l m, but-other 127 e sizes k p, h k (row-entries G ok i k (r .0) m))
+    by k p l m = omega (arith, least-below (but 127 e sizes) 127 a (checkDegree G i) k l m, but-other 127 e sizes k p, h k (row-entries G (rowed ok) i k (r .0) m))
 
     go : Dec (e ≡ a) → fold min 127 (but 127 e sizes) a (checkDegree G i) ≤ N
     go (yes p) = by (suc a) (omega arith) (omega arith) (omega (arith, ok .checkDegrees i (r .0)))

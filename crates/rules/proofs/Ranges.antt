@@ -3,7 +3,7 @@ use mathlib.Core.Path.{_≡_, refl, sym, ap, ap₂, _∙_, subst⁻¹}
 use mathlib.Core.Bool.{Bool, true, false, cond}
 use mathlib.Core.Logic.{_≢_, ⊎-elim}
 use mathlib.Core.List.{List, [], _∷_, _++_, append-assoc, append-nil}
-use Prim.Native.Nat.{ℕ, zero, suc, _+_, _-_, _*_, _≤_, _<_}
+use Prim.Native.Nat.{ℕ, zero, suc, _+_, _-_, _*_, _≤_, _<_, min}
 use native.Mathlib.Decide.{ℕ-discrete, decLt}
 use native.Mathlib.Nat.{zero-add, mul-zero, eq-or-lt-of-le, le-of-suc-le-suc}
 use native.Mathlib.Numerals.{add-one}
@@ -93,6 +93,34 @@ module _ {A : Type 0} (op : A → A → A) (z : A) (M : Monoid op z) where
             M .assoc (fold op z (but z e f) a n) (f (a + n)) (f e),
             M .comm (f e) (f (a + n)),
           )
+
+-- numbered from a, or from 0
+pub fold-shift : {A : Type 0} (op : A → A → A) (z : A) (f : ℕ → A) (a n : ℕ) → fold op z f a n ≡ fold op z (λ k. f (a + k)) 0 n
+unfolding fold
+fold-shift op z f a zero = refl
+fold-shift op z f a (suc n) = ap₂ op (fold-shift op z f a n) (ap (λ k. f (a + k)) (sym (zero-add n)))
+
+-- ---- the least
+
+module _ (f : ℕ → ℕ) (z a : ℕ) where
+  pub least-below : (n k : ℕ) → a ≤ k → k < a + n → fold min z f a n ≤ f k
+  unfolding fold
+  least-below zero k l u = absurd (omega arith)
+  least-below (suc n) k l u = go (ℕ-discrete k (a + n)) (least-below n k l)
+    where
+      go : Dec (k ≡ a + n) → (k < a + n → fold min z f a n ≤ f k) → min (fold min z f a n) (f (a + n)) ≤ f k
+      go (yes p) ih = rw p (omega arith)
+      go (no p) ih = omega (arith, ih (omega arith))
+
+  pub least-top : (n : ℕ) → fold min z f a n ≤ z
+  unfolding fold
+  least-top zero = omega arith
+  least-top (suc n) = omega (arith, least-top n)
+
+  pub least-above : (x n : ℕ) → x ≤ z → ((k : ℕ) → a ≤ k → k < a + n → x ≤ f k) → x ≤ fold min z f a n
+  unfolding fold
+  least-above x zero t h = t
+  least-above x (suc n) t h = omega (arith, least-above x n t (λ k l u. h k l (omega arith)), h (a + n) (omega arith) (omega arith))
 
 -- ---- counts
 

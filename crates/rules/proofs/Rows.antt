@@ -1,4 +1,4 @@
--- Entries and their checks, on an admitted graph.
+-- Entries and their checks, on a graph whose starts make rows.
 use mathlib.Core.Path.{_≡_, refl, sym, ap, _∙_}
 use Prim.Native.Nat.{ℕ, zero, suc, _+_, _-_, _≤_, _<_}
 use native.Mathlib.Decide.{ℕ-discrete}
@@ -6,21 +6,24 @@ use native.Mathlib.Omega.{arith}
 use borrow.Author.Tests.{ltb-true, ltb-false, lt-ltb, le-ltb}
 use lib.Dec.{ltb}
 use Rattle.rules.specs.Ranges.{first}
-use Rattle.rules.specs.Graphs.{Graph, Admitted, checkDegree, checkOf}
+use Rattle.rules.specs.Graphs.{Graph, Admitted, Rowed, checkDegree, checkOf}
 use Rattle.rules.proofs.Ranges.{First, first-is, first-only}
 
-module _ (G : Graph) (ok : Admitted G) where
+pub rowed : {G : Graph} → Admitted G → Rowed G
+rowed ok = record { begins = ok .begins; ends = ok .ends; rises = λ i h. ok .checkDegrees i h .0 }
+
+module _ (G : Graph) (ok : Rowed G) where
   pub starts-rise : (i j : ℕ) → i ≤ j → j ≤ G .checks → G .start i ≤ G .start j
   starts-rise i zero l u = let p : i ≡ 0 = omega arith in rw p (omega arith)
   starts-rise i (suc j) l u = go (ℕ-discrete i (suc j)) (starts-rise i j)
     where
       go : Dec (i ≡ suc j) → (i ≤ j → j ≤ G .checks → G .start i ≤ G .start j) → G .start i ≤ G .start (suc j)
       go (yes p) ih = rw p (omega arith)
-      go (no p) ih = omega (arith, ih (omega arith) (omega arith), ok .checkDegrees j u)
+      go (no p) ih = omega (arith, ih (omega arith) (omega arith), ok .rises j u)
 
   -- the entries of check i are entries of the graph
   pub row-entries : (i e : ℕ) → i < G .checks → e < G .start i + checkDegree G i → e < G .entries
-  row-entries i e h u = omega (arith, ok .checkDegrees i h, starts-rise (suc i) (G .checks) h (omega arith), ok .ends)
+  row-entries i e h u = omega (arith, ok .rises i h, starts-rise (suc i) (G .checks) h (omega arith), ok .ends)
 
   -- entry e stands in the row of its check
   pub row-within : (e : ℕ) → e < G .entries → (checkOf G e < G .checks) × (G .start (checkOf G e) ≤ e) × (e < G .start (suc (checkOf G e)))

@@ -12,7 +12,7 @@ use Rattle.rules.specs.Graphs.{Graph, Admitted, checkDegree, variableDeg
 use Rattle.rules.specs.Nodes.{others, fromCheck, contribution, extra, channelPart, share, posterior, outgoingSum}
 use Rattle.rules.specs.Symmetry.{turned, opposite, Reversed}
 use Rattle.rules.proofs.Ranges.{fold-ext, fold-map, fold-both, fold-but, count-ext}
-use Rattle.rules.proofs.Rows.{row-within, row-entries, row-is}
+use Rattle.rules.proofs.Rows.{rowed, row-within, row-entries, row-is}
 use Rattle.rules.proofs.Signs.{xor-monoid, xor-self, xor-zero, xor-cancel, false-xor, opposite-zero, opposite-sum, contribution-turned}
 
 module _ (G : Graph) (ok : Admitted G) (c : ℕ → Bool) where
@@ -40,7 +40,7 @@ module _ (G : Graph) (ok : Admitted G) (c : ℕ → Bool) where
       d = checkDegree G (checkOf G e)
 
       here : (k : ℕ) → k < a + d → q′ k ≡ turned (c (G .column k)) (q k)
-      here k l = h k (row-entries G ok (checkOf G e) k (row-within G ok e u .0) l)
+      here k l = h k (row-entries G (rowed ok) (checkOf G e) k (row-within G (rowed ok) e u .0) l)
 
       sign : (b : Bool) (k : ℕ) → k < a + d → cond b false (q′ k .minus) ≡ xor (cond b false (c (G .column k))) (cond b false (q k .minus))
       sign true k l = refl
@@ -63,7 +63,7 @@ module _ (G : Graph) (ok : Admitted G) (c : ℕ → Bool) where
   others-own : (e : ℕ) → e < G .entries → oddCheck G c (checkOf G e) ≡ xor (oddOthers e) (c (G .column e))
   unfolding oddCheck oddOthers others
   others-own e h =
-      let r = row-within G ok e h in
+      let r = row-within G (rowed ok) e h in
       fold-but xor false xor-monoid e (λ k. c (G .column k)) (G .start (checkOf G e)) (checkDegree G (checkOf G e)) (r .1) (omega (arith, r .2))
 
   -- for a codeword the check messages are reversed as the variable messages are
@@ -71,7 +71,7 @@ module _ (G : Graph) (ok : Admitted G) (c : ℕ → Bool) where
   check-mirrored w q q′ h e u = check-turned q q′ h e u ∙ ap (λ b. turned b (fromCheck G q e)) even
     where
       even : oddOthers e ≡ c (G .column e)
-      even = xor-zero (oddOthers e) (c (G .column e)) (sym (others-own e u) ∙ w (checkOf G e) (row-within G ok e u .0))
+      even = xor-zero (oddOthers e) (c (G .column e)) (sym (others-own e u) ∙ w (checkOf G e) (row-within G (rowed ok) e u .0))
 
   -- and only for a codeword
   pub only-codewords : (q q′ : ℕ → Level) → Reverses q q′ → Reverses (fromCheck G q) (fromCheck G q′) → Codeword G c
@@ -83,10 +83,10 @@ module _ (G : Graph) (ok : Admitted G) (c : ℕ → Bool) where
       e = G .start i
 
       inside : e < G .entries
-      inside = row-entries G ok i e u (omega (arith, ok .checkDegrees i u))
+      inside = row-entries G (rowed ok) i e u (omega (arith, ok .checkDegrees i u))
 
       at-row : checkOf G e ≡ i
-      at-row = row-is G ok e i u (omega arith) (omega (arith, ok .checkDegrees i u))
+      at-row = row-is G (rowed ok) e i u (omega arith) (omega (arith, ok .checkDegrees i u))
 
       bit : oddOthers e ≡ c (G .column e)
       bit = xor-cancel (oddOthers e) (c (G .column e)) (fromCheck G q e .minus)
@@ -140,6 +140,6 @@ module _ (G : Graph) (ok : Admitted G) (c : ℕ → Bool) where
     where
       same : (i : ℕ) → i < G .checks → oddCheck G b′ i ≡ oddCheck G b i
       same i u = fold-ext xor false (λ e. b′ (G .column e)) (λ e. xor (c (G .column e)) (b (G .column e))) (G .start i) (checkDegree G i)
-          (λ e lo hi. h (G .column e) (ok .within e (row-entries G ok i e u hi)))
+          (λ e lo hi. h (G .column e) (ok .within e (row-entries G (rowed ok) i e u hi)))
           ∙ fold-both xor false xor-monoid (λ e. c (G .column e)) (λ e. b (G .column e)) (G .start i) (checkDegree G i)
           ∙ ap (λ x. xor x (oddCheck G b i)) (w i u) ∙ false-xor (oddCheck G b i)

@@ -38,6 +38,12 @@ pub record Admitted (G : Graph) : Type 0 where
   pub checkDegrees : (i : ℕ) → i < G .checks → (G .start i + 2 ≤ G .start (suc i)) × (G .start (suc i) ≤ G .start i + 64)
   pub variableDegrees : (v : ℕ) → v < G .variables → (1 ≤ variableDegree G v) × (variableDegree G v ≤ 32)
 
+-- What check nodes need of a graph: starts that make rows of at least two entries, from 0 to E. An admitted graph has them.
+pub record Rowed (G : Graph) : Type 0 where
+  pub begins : G .start 0 ≡ 0
+  pub ends : G .start (G .checks) ≡ G .entries
+  pub rises : (i : ℕ) → i < G .checks → G .start i + 2 ≤ G .start (suc i)
+
 -- Whether check i has an odd number of ones among the bits b.
 unfoldable pub oddCheck : Graph → (ℕ → Bool) → ℕ → Bool
 oddCheck G b i = fold xor false (λ e. b (G .column e)) (G .start i) (checkDegree G i)

@@ -1,10 +1,10 @@
 -- A loop that fills a list from its beginning: its invariant, with its start, its step and its end.
 use mathlib.Core.Path.{_≡_, refl, sym, ap, _∙_}
-use mathlib.Core.List.{List, _++_}
+use mathlib.Core.List.{List, _++_, append-nil}
 use Prim.Native.Nat.{ℕ, _+_, _-_, _*_, _≤_, _<_}
 use native.Mathlib.Nat.{mul-zero, mul-le-mul-left}
 use native.Mathlib.Omega.{arith}
-use lib.ListN.{length, getD, drop}
+use lib.ListN.{length, getD, drop, drop-of-length-le}
 use lib.Seq.{getD-append-add, getD-drop}
 use Rattle.words.specs.Words.{word, stored, table}
 use Rattle.words.proofs.Words.{length-stored, word-ext, table-none, length-table, put-next}
@@ -36,3 +36,8 @@ filled-rest {w} {f} {old} {now} {i} {j} l h = ap (λ b. word w b (w * j)) (h .is
 
 pub filled-end : {w : ℕ} {f : ℕ → ℕ} {old now : List ℕ} {i n : ℕ} → i ≡ n → Filled w f old now i → now ≡ table w f n ++ drop (w * n) old
 filled-end {w} {f} {old} {now} {i} {n} e h = h .is ∙ ap (λ k. table w f k ++ drop (w * k) old) e
+
+-- where the list has no more places
+pub filled-all : {w : ℕ} {f : ℕ → ℕ} {old now : List ℕ} {i n : ℕ} → i ≡ n → length old ≡ w * n → Filled w f old now i → now ≡ table w f n
+filled-all {w} {f} {old} {now} {i} {n} e l h =
+    filled-end e h ∙ ap (λ (t : List ℕ). table w f n ++ t) (drop-of-length-le old {i = w * n} (omega arith)) ∙ append-nil (table w f n)

@@ -4,11 +4,11 @@ use mathlib.Core.Logic.{_≢_, _⊎_, inl, inr, ⊎-elim}
 use mathlib.Core.List.{List, [], _∷_, _++_, append-assoc}
 use Prim.Native.Nat.{ℕ, zero, suc, _+_, _*_, _/_, _%_, _^_, _≤_, _<_}
 use native.Mathlib.Decide.{decLt}
-use native.Mathlib.Nat.{add-zero, mul-suc, pow-suc, pow-succ', mul-assoc, mul-le-mul-left, eq-or-lt-of-le, le-of-suc-le-suc}
+use native.Mathlib.Nat.{add-zero, mul-zero, mul-suc, pow-suc, pow-succ', mul-assoc, mul-le-mul-left, eq-or-lt-of-le, le-of-suc-le-suc}
 use native.Mathlib.Numerals.{add-one}
 use native.Mathlib.Omega.{arith}
 use lib.ListN.{length, getD, set, take, drop, length-set, length-append, length-drop, take-append-drop, List·getD-append}
-use lib.Seq.{length-take-le, append-snoc, set-at, getD-at, getD-set-other, getD-append-add, drop-at, drop-drop}
+use lib.Seq.{length-take-le, append-snoc, set-at, getD-at, getD-set-other, getD-append-add, drop-at, drop-drop, drop-cons, take-add}
 use Rattle.rules.specs.Ranges.{joined}
 use Rattle.rules.proofs.Ranges.{joined-none, joined-ext, length-joined}
 use Rattle.words.specs.Words.{word, stored, bytes, table}
@@ -174,3 +174,24 @@ put-next w f old i l = rw (add-one i, mul-suc w i, append-assoc)
   where
     more : w * (i + 1) ≡ w * i + w
     more = ap (λ k. w * k) (add-one i) ∙ mul-suc w i
+
+-- ---- a list as the table of its own numbers
+
+pub bytes-word : (w : ℕ) (b : List ℕ) (k : ℕ) → k + w ≤ length b → ((j : ℕ) → getD b j 0 < 256) → bytes w (word w b k) ≡ take w (drop k b)
+unfolding bytes word
+bytes-word zero b k l h = refl
+bytes-word (suc w) b k l h =
+    rw (drop-cons b k 0 (omega arith)) (ap₂ _∷_ low (ap (bytes w) high ∙ bytes-word w b (suc k) (omega arith) h))
+  where
+    low : (getD b k 0 + 256 * word w b (suc k)) % 256 ≡ getD b k 0
+    low = omega (arith, h k)
+
+    high : (getD b k 0 + 256 * word w b (suc k)) / 256 ≡ word w b (suc k)
+    high = omega (arith, h k)
+
+pub table-self : (w : ℕ) (b : List ℕ) (n : ℕ) → w * n ≤ length b → ((j : ℕ) → getD b j 0 < 256) → table w (λ i. word w b (w * i)) n ≡ take (w * n) b
+unfolding table joined
+table-self w b zero l h = rw (mul-zero w)
+table-self w b (suc n) l h =
+    let e : w * suc n ≡ w * n + w = mul-suc w n in
+    ap₂ _++_ (table-self w b n (omega arith) h) (bytes-word w b (w * n) (omega arith) h) ∙ sym (take-add (w * n) w b) ∙ ap (λ k. take k b) (sym e)

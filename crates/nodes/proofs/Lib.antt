@@ -1,0 +1,5 @@
+pub mod Signed
+pub mod Leaves
+pub mod RowLaws
+pub mod SumLaws
+pub mod Table

@@ -1,0 +1,301 @@
+// Variable to check: each variable sends its sum without the recipient's own part, clipped and offset.
+ghost use mathlib.Core.Path.{_≡_};
+ghost use Prim.Native.Nat.{ℕ, _-_, _/_, _<_, _≤_, _^_};
+ghost use lib.ListN.{length, getD};
+ghost use lib.IntN.{natAbs, _-ℤ_};
+ghost use Rattle.rules.specs.Ranges.{tabulate};
+ghost use Rattle.rules.specs.Levels.{byte, levelOf, largest};
+ghost use Rattle.rules.specs.Nodes.{contribution, outgoingMagnitude};
+ghost use Rattle.words.specs.Roles.{columnAt, sumAt};
+ghost use Rattle.nodes.specs.Memory.{levelIn};
+ghost use Rattle.nodes.specs.Magnitudes.{offsets, outgoingBy};
+
+// Outgoing magnitudes: message precisions 2, 3 and 4 bits, in each the offsets 000 to 111, in each F from 0 to 8.
+const MAGNITUDES: [u8; 216] = [
+    0,
+    1,
+    1,
+    1,
+    1,
+    1,
+    1,
+    1,
+    1,
+    0,
+    1,
+    1,
+    1,
+    1,
+    1,
+    1,
+    1,
+    1,
+    0,
+    1,
+    1,
+    1,
+    1,
+    1,
+    1,
+    1,
+    1,
+    0,
+    1,
+    1,
+    1,
+    1,
+    1,
+    1,
+    1,
+    1,
+    0,
+    0,
+    1,
+    1,
+    1,
+    1,
+    1,
+    1,
+    1,
+    0,
+    0,
+    1,
+    1,
+    1,
+    1,
+    1,
+    1,
+    1,
+    0,
+    0,
+    1,
+    1,
+    1,
+    1,
+    1,
+    1,
+    1,
+    0,
+    0,
+    1,
+    1,
+    1,
+    1,
+    1,
+    1,
+    1,
+    0,
+    1,
+    2,
+    3,
+    3,
+    3,
+    3,
+    3,
+    3,
+    0,
+    0,
+    2,
+    3,
+    3,
+    3,
+    3,
+    3,
+    3,
+    0,
+    1,
+    1,
+    3,
+    3,
+    3,
+    3,
+    3,
+    3,
+    0,
+    0,
+    1,
+    3,
+    3,
+    3,
+    3,
+    3,
+    3,
+    0,
+    1,
+    2,
+    2,
+    3,
+    3,
+    3,
+    3,
+    3,
+    0,
+    0,
+    2,
+    2,
+    3,
+    3,
+    3,
+    3,
+    3,
+    0,
+    1,
+    1,
+    2,
+    3,
+    3,
+    3,
+    3,
+    3,
+    0,
+    0,
+    1,
+    2,
+    3,
+    3,
+    3,
+    3,
+    3,
+    0,
+    1,
+    2,
+    3,
+    4,
+    5,
+    6,
+    7,
+    7,
+    0,
+    0,
+    2,
+    3,
+    4,
+    5,
+    6,
+    7,
+    7,
+    0,
+    1,
+    1,
+    2,
+    3,
+    4,
+    5,
+    7,
+    7,
+    0,
+    0,
+    1,
+    2,
+    3,
+    4,
+    5,
+    7,
+    7,
+    0,
+    1,
+    2,
+    3,
+    4,
+    5,
+    6,
+    6,
+    7,
+    0,
+    0,
+    2,
+    3,
+    4,
+    5,
+    6,
+    6,
+    7,
+    0,
+    1,
+    1,
+    2,
+    3,
+    4,
+    5,
+    6,
+    7,
+    0,
+    0,
+    1,
+    2,
+    3,
+    4,
+    5,
+    6,
+    7,
+];
+
+// The nine magnitudes of a setting, F from 0 to 8.
+pub fn magnitudes(message: u8, phi_s: u8, phi_a: u8, phi_0: u8) -> [u8; 9]
+    requires { ⌜ (2 ≤ message) × (message ≤ 4) × («phi_s» ≤ 1) × («phi_a» ≤ 1) × («phi_0» ≤ 1) ⌝ }
+    ensures { λ r. ⌜ r ≡ tabulate (outgoingMagnitude (largest message) (offsets «phi_s» «phi_a» «phi_0»)) 9 ⌝ }
+{
+    let base = (message as usize - 2) * 72
+        + (phi_s as usize) * 36
+        + (phi_a as usize) * 18
+        + (phi_0 as usize) * 9;
+    let mut nine = [0u8; 9];
+    let mut f = 0;
+    while f < 9 {
+        nine[f] = MAGNITUDES[base + f];
+        f += 1;
+    }
+    nine
+}
+
+// The size of a number that is not the least of its type.
+fn size_of(u: i32) -> usize
+    requires { ⌜ natAbs u < 2 ^ 31 ⌝ }
+    ensures { λ r. ⌜ r ≡ natAbs u ⌝ }
+{
+    if u < 0 { (-u) as usize } else { u as usize }
+}
+
+// (n - 1) / 2, and 0 for 0.
+fn half(n: usize) -> usize
+    ensures { λ r. ⌜ r ≡ (n - 1) / 2 ⌝ }
+{
+    if n == 0 { 0 } else { (n - 1) / 2 }
+}
+
+// What a variable with this sum sends where it got the level b.
+fn variable_message(sum: i32, b: u8, nine: &[u8]) -> u8
+    requires { ⌜ (natAbs sum < 2 ^ 30) × (length (now nine) ≡ 9) ⌝ }
+    requires { ⌜ ((k : ℕ) → getD (now nine) k 0 < 128) ⌝ }
+    ensures { λ r. ⌜ r ≡ byte (outgoingBy (now (nine .entry)) (sum -ℤ contribution 1 (levelOf b))) ⌝ }
+{
+    let u = sum - crate::sums::contribution(b, 1);
+    let f = half(size_of(u));
+    if f < 8 {
+        crate::check::byte_of(u < 0, nine[f])
+    } else {
+        crate::check::byte_of(u < 0, nine[8])
+    }
+}
+
+// The variable nodes, at all entries.
+pub fn variable_nodes(
+    columns: &[u8],
+    incoming: &[u8],
+    sums: &[u8],
+    nine: &[u8],
+    outgoing: &mut [u8],
+)
+    requires { ⌜ (length (now incoming) ≡ length (now columns) / 2) × (length (now outgoing) ≡ length (now incoming)) × (length (now nine) ≡ 9) ⌝ }
+    requires { ⌜ ((k : ℕ) → getD (now nine) k 0 < 128) ⌝ }
+    requires { ⌜ ((e : ℕ) → e < length (now incoming) → columnAt (now columns) e < length (now sums) / 4) ⌝ }
+    requires { ⌜ ((v : ℕ) → v < length (now sums) / 4 → natAbs (sumAt (now sums) v) < 2 ^ 30) ⌝ }
+    ensures { λ _. ⌜ now (outgoing .exit) ≡ tabulate (λ e. byte (outgoingBy (now (nine .entry)) (sumAt (now (sums .entry)) (columnAt (now (columns .entry)) e) -ℤ contribution 1 (levelIn (now (incoming .entry)) e)))) (length (now (incoming .entry))) ⌝ }
+{
+    let mut e = 0;
+    while e < incoming.len() {
+        let v = words::column(columns, e);
+        outgoing[e] = variable_message(words::sum(sums, v), incoming[e], nine);
+        e += 1;
+    }
+}
