@@ -1,4 +1,4 @@
--- The magnitude table: what stands at each entry, and the message that nine magnitudes give.
+-- The magnitude table: its rows, and the message that nine magnitudes give.
 use mathlib.Core.Path.{_≡_, sym, ap, _∙_}
 use mathlib.Core.Bool.{cond}
 use mathlib.Core.List.{List}
@@ -13,28 +13,22 @@ use Rattle.rules.specs.Ranges.{tabulate}
 use Rattle.rules.specs.Levels.{largest, byte}
 use Rattle.rules.specs.Nodes.{Offsets, outgoingMagnitude, negative, outgoing}
 use Rattle.rules.proofs.Ranges.{getD-tabulate}
-use Rattle.nodes.specs.Magnitudes.{offsets, tableRule, outgoingBy}
+use Rattle.nodes.specs.Magnitudes.{offsets, tableRow, outgoingBy}
 use Rattle.nodes.proofs.Leaves.{negative-test}
 
--- the entry of a setting and F
-pub rule-at : (b s a z f : ℕ) → 2 ≤ b → b ≤ 4 → s ≤ 1 → a ≤ 1 → z ≤ 1 → f < 9
-    → tableRule ((b - 2) * 72 + s * 36 + a * 18 + z * 9 + f) ≡ outgoingMagnitude (largest b) (offsets s a z) f
-rule-at b s a z f h₀ h₁ hs ha hz hf = rw (e₁, e₂, e₃, e₄, e₅)
+-- the row of a setting
+pub row-at : (b s a z : ℕ) → 2 ≤ b → b ≤ 4 → s ≤ 1 → a ≤ 1 → z ≤ 1
+    → tableRow ((b - 2) * 8 + s * 4 + a * 2 + z) ≡ tabulate (outgoingMagnitude (largest b) (offsets s a z)) 9
+row-at b s a z h₀ h₁ hs ha hz = rw (e₁, e₂, e₃, e₄)
   where
-    e₁ : ((b - 2) * 72 + s * 36 + a * 18 + z * 9 + f) / 72 + 2 ≡ b
+    e₁ : ((b - 2) * 8 + s * 4 + a * 2 + z) / 8 + 2 ≡ b
     e₁ = omega arith
-
-    e₂ : ((b - 2) * 72 + s * 36 + a * 18 + z * 9 + f) / 36 % 2 ≡ s
+    e₂ : ((b - 2) * 8 + s * 4 + a * 2 + z) / 4 % 2 ≡ s
     e₂ = omega arith
-
-    e₃ : ((b - 2) * 72 + s * 36 + a * 18 + z * 9 + f) / 18 % 2 ≡ a
+    e₃ : ((b - 2) * 8 + s * 4 + a * 2 + z) / 2 % 2 ≡ a
     e₃ = omega arith
-
-    e₄ : ((b - 2) * 72 + s * 36 + a * 18 + z * 9 + f) / 9 % 2 ≡ z
+    e₄ : ((b - 2) * 8 + s * 4 + a * 2 + z) % 2 ≡ z
     e₄ = omega arith
-
-    e₅ : ((b - 2) * 72 + s * 36 + a * 18 + z * 9 + f) % 9 ≡ f
-    e₅ = omega arith
 
 -- above Nq the magnitude is Nq
 above : (Nq : ℕ) (φ : Offsets) (F : ℕ) → Nq < F → outgoingMagnitude Nq φ F ≡ Nq

@@ -3,15 +3,16 @@ use mathlib.Core.List.{List}
 use Prim.Native.Nat.{ℕ, _+_, _-_, _/_, _%_, min}
 use lib.ListN.{getD}
 use lib.IntN.{ℤ, natAbs}
+use Rattle.rules.specs.Ranges.{tabulate}
 use Rattle.rules.specs.Levels.{Level, largest}
 use Rattle.rules.specs.Nodes.{Offsets, outgoingMagnitude, negative}
 
 abbrev pub offsets : ℕ → ℕ → ℕ → Offsets
 offsets s a z = record { phiS = s; phiA = a; phi0 = z }
 
--- What stands at entry i of the table: message precisions 2, 3 and 4 bits, in each the offsets 000 to 111 as φs φa φ0, in each F from 0 to 8.
-abbrev pub tableRule : ℕ → ℕ
-tableRule i = outgoingMagnitude (largest (i / 72 + 2)) (offsets (i / 36 % 2) (i / 18 % 2) (i / 9 % 2)) (i % 9)
+-- Row r of the table: message precisions 2, 3 and 4 bits, in each the offsets 000 to 111 as φs φa φ0; in a row F from 0 to 8.
+abbrev pub tableRow : ℕ → List ℕ
+tableRow r = tabulate (outgoingMagnitude (largest (r / 8 + 2)) (offsets (r / 4 % 2) (r / 2 % 2) (r % 2))) 9
 
 -- The message of an outgoing sum, by the nine magnitudes of a setting.
 unfoldable pub outgoingBy : List ℕ → ℤ → Level

@@ -10,224 +10,32 @@ ghost use Rattle.words.specs.Roles.{columnAt, sumAt};
 ghost use Rattle.nodes.specs.Memory.{levelIn};
 ghost use Rattle.nodes.specs.Magnitudes.{offsets, outgoingBy};
 
-// Outgoing magnitudes: message precisions 2, 3 and 4 bits, in each the offsets 000 to 111, in each F from 0 to 8.
-const MAGNITUDES: [u8; 216] = [
-    0,
-    1,
-    1,
-    1,
-    1,
-    1,
-    1,
-    1,
-    1,
-    0,
-    1,
-    1,
-    1,
-    1,
-    1,
-    1,
-    1,
-    1,
-    0,
-    1,
-    1,
-    1,
-    1,
-    1,
-    1,
-    1,
-    1,
-    0,
-    1,
-    1,
-    1,
-    1,
-    1,
-    1,
-    1,
-    1,
-    0,
-    0,
-    1,
-    1,
-    1,
-    1,
-    1,
-    1,
-    1,
-    0,
-    0,
-    1,
-    1,
-    1,
-    1,
-    1,
-    1,
-    1,
-    0,
-    0,
-    1,
-    1,
-    1,
-    1,
-    1,
-    1,
-    1,
-    0,
-    0,
-    1,
-    1,
-    1,
-    1,
-    1,
-    1,
-    1,
-    0,
-    1,
-    2,
-    3,
-    3,
-    3,
-    3,
-    3,
-    3,
-    0,
-    0,
-    2,
-    3,
-    3,
-    3,
-    3,
-    3,
-    3,
-    0,
-    1,
-    1,
-    3,
-    3,
-    3,
-    3,
-    3,
-    3,
-    0,
-    0,
-    1,
-    3,
-    3,
-    3,
-    3,
-    3,
-    3,
-    0,
-    1,
-    2,
-    2,
-    3,
-    3,
-    3,
-    3,
-    3,
-    0,
-    0,
-    2,
-    2,
-    3,
-    3,
-    3,
-    3,
-    3,
-    0,
-    1,
-    1,
-    2,
-    3,
-    3,
-    3,
-    3,
-    3,
-    0,
-    0,
-    1,
-    2,
-    3,
-    3,
-    3,
-    3,
-    3,
-    0,
-    1,
-    2,
-    3,
-    4,
-    5,
-    6,
-    7,
-    7,
-    0,
-    0,
-    2,
-    3,
-    4,
-    5,
-    6,
-    7,
-    7,
-    0,
-    1,
-    1,
-    2,
-    3,
-    4,
-    5,
-    7,
-    7,
-    0,
-    0,
-    1,
-    2,
-    3,
-    4,
-    5,
-    7,
-    7,
-    0,
-    1,
-    2,
-    3,
-    4,
-    5,
-    6,
-    6,
-    7,
-    0,
-    0,
-    2,
-    3,
-    4,
-    5,
-    6,
-    6,
-    7,
-    0,
-    1,
-    1,
-    2,
-    3,
-    4,
-    5,
-    6,
-    7,
-    0,
-    0,
-    1,
-    2,
-    3,
-    4,
-    5,
-    6,
-    7,
+// Outgoing magnitudes for F from 0 to 8: a row for each message precision and each setting of the offsets φs φa φ0.
+const MAGNITUDES: [[u8; 9]; 24] = [
+    [0, 1, 1, 1, 1, 1, 1, 1, 1], // 2 bits, 000
+    [0, 1, 1, 1, 1, 1, 1, 1, 1], // 2 bits, 001
+    [0, 1, 1, 1, 1, 1, 1, 1, 1], // 2 bits, 010
+    [0, 1, 1, 1, 1, 1, 1, 1, 1], // 2 bits, 011
+    [0, 0, 1, 1, 1, 1, 1, 1, 1], // 2 bits, 100
+    [0, 0, 1, 1, 1, 1, 1, 1, 1], // 2 bits, 101
+    [0, 0, 1, 1, 1, 1, 1, 1, 1], // 2 bits, 110
+    [0, 0, 1, 1, 1, 1, 1, 1, 1], // 2 bits, 111
+    [0, 1, 2, 3, 3, 3, 3, 3, 3], // 3 bits, 000
+    [0, 0, 2, 3, 3, 3, 3, 3, 3], // 3 bits, 001
+    [0, 1, 1, 3, 3, 3, 3, 3, 3], // 3 bits, 010
+    [0, 0, 1, 3, 3, 3, 3, 3, 3], // 3 bits, 011
+    [0, 1, 2, 2, 3, 3, 3, 3, 3], // 3 bits, 100
+    [0, 0, 2, 2, 3, 3, 3, 3, 3], // 3 bits, 101
+    [0, 1, 1, 2, 3, 3, 3, 3, 3], // 3 bits, 110
+    [0, 0, 1, 2, 3, 3, 3, 3, 3], // 3 bits, 111
+    [0, 1, 2, 3, 4, 5, 6, 7, 7], // 4 bits, 000
+    [0, 0, 2, 3, 4, 5, 6, 7, 7], // 4 bits, 001
+    [0, 1, 1, 2, 3, 4, 5, 7, 7], // 4 bits, 010
+    [0, 0, 1, 2, 3, 4, 5, 7, 7], // 4 bits, 011
+    [0, 1, 2, 3, 4, 5, 6, 6, 7], // 4 bits, 100
+    [0, 0, 2, 3, 4, 5, 6, 6, 7], // 4 bits, 101
+    [0, 1, 1, 2, 3, 4, 5, 6, 7], // 4 bits, 110
+    [0, 0, 1, 2, 3, 4, 5, 6, 7], // 4 bits, 111
 ];
 
 // The nine magnitudes of a setting, F from 0 to 8.
@@ -235,17 +43,11 @@ pub fn magnitudes(message: u8, phi_s: u8, phi_a: u8, phi_0: u8) -> [u8; 9]
     requires { ⌜ (2 ≤ message) × (message ≤ 4) × («phi_s» ≤ 1) × («phi_a» ≤ 1) × («phi_0» ≤ 1) ⌝ }
     ensures { λ r. ⌜ r ≡ tabulate (outgoingMagnitude (largest message) (offsets «phi_s» «phi_a» «phi_0»)) 9 ⌝ }
 {
-    let base = (message as usize - 2) * 72
-        + (phi_s as usize) * 36
-        + (phi_a as usize) * 18
-        + (phi_0 as usize) * 9;
-    let mut nine = [0u8; 9];
-    let mut f = 0;
-    while f < 9 {
-        nine[f] = MAGNITUDES[base + f];
-        f += 1;
-    }
-    nine
+    let row = (message as usize - 2) * 8
+        + (phi_s as usize) * 4
+        + (phi_a as usize) * 2
+        + (phi_0 as usize);
+    MAGNITUDES[row]
 }
 
 // The size of a number that is not the least of its type.
