@@ -23,10 +23,13 @@ row-at b s a z h₀ h₁ hs ha hz = rw (e₁, e₂, e₃, e₄)
   where
     e₁ : ((b - 2) * 8 + s * 4 + a * 2 + z) / 8 + 2 ≡ b
     e₁ = omega arith
+
     e₂ : ((b - 2) * 8 + s * 4 + a * 2 + z) / 4 % 2 ≡ s
     e₂ = omega arith
+
     e₃ : ((b - 2) * 8 + s * 4 + a * 2 + z) / 2 % 2 ≡ a
     e₃ = omega arith
+
     e₄ : ((b - 2) * 8 + s * 4 + a * 2 + z) % 2 ≡ z
     e₄ = omega arith
 

@@ -120,7 +120,7 @@ module _ (G : Graph) (C : ℕ → Level) (Nq : ℕ) (h : (k : ℕ) → k < G .en
   shares-bound (suc j) u = rw (zero-add j)
       (omega (arith, abs-sum (fold _+ℤ_ (pos 0) (share G C v) 0 j) (share G C v j), shares-bound j (omega arith), share-bound j u))
 
-  posterior-bound : (Nch : ℕ) (y : ℕ → Level) → y v .magnitude ≤ Nch → natAbs (posterior G y C v) ≤ largestSum Nch Nq (variableDegree G v)
+  pub posterior-bound : (Nch : ℕ) (y : ℕ → Level) → y v .magnitude ≤ Nch → natAbs (posterior G y C v) ≤ largestSum Nch Nq (variableDegree G v)
   unfolding posterior channelPart variableDegree count
   posterior-bound Nch y g = omega (
     arith,

@@ -1,0 +1,6 @@
+pub mod Answers
+pub mod Floats
+pub mod Magnitudes
+pub mod Factors
+pub mod Accepted
+pub mod Reversing

@@ -1,0 +1,65 @@
+-- Laws of magnitudes: counting thresholds, and the level's byte.
+use mathlib.Core.Path.{_≡_, refl, ap, ap₂, _∙_}
+use mathlib.Core.Bool.{Bool, true, false, cond}
+use Prim.Native.Nat.{ℕ, zero, suc, _+_, _≤_, _<_}
+use native.Mathlib.Numerals.{add-one}
+use native.Mathlib.Omega.{arith}
+use lib.Dec.{lit≤}
+use lib.Ieee.{Float, binary32, mul, lt}
+use mir.Syntax.{w8}
+use mir.Val.{Fits, boolByte}
+use Rattle.rules.specs.Ranges.{fold, one, count}
+use Rattle.rules.specs.Levels.{byte, largest}
+use Rattle.rules.proofs.Ranges.{count-le}
+use Rattle.channel.specs.Scaling.{whole}
+use Rattle.channel.specs.Quantiser.{signBit, size, wholesBelow, levelFor}
+use Rattle.channel.specs.Theorems.{MagnitudesWithin}
+
+pub below-none : (p : Float) → 0 ≡ wholesBelow 0 p
+unfolding wholesBelow count fold
+below-none p = refl
+
+byte-one : (b : Bool) → boolByte b ≡ one b
+byte-one true = refl
+byte-one false = refl
+
+-- a small count and one test more
+pub one-more-fits : (n : ℕ) (b : Bool) → n < 128 → Fits w8 (n + boolByte b)
+one-more-fits n true l = record { fits = omega arith }
+one-more-fits n false l = record { fits = omega arith }
+
+-- one threshold more
+pub below-more : (k : ℕ) (p : Float) → wholesBelow k p + boolByte (lt (whole (k + 1)) p) ≡ wholesBelow (k + 1) p
+unfolding wholesBelow count fold
+below-more k p =
+    ap (λ n. wholesBelow k p + n) (byte-one (lt (whole (k + 1)) p))
+    ∙ rw (add-one k) (ap (λ j. wholesBelow k p + one (lt (whole j) p)) (omega arith))
+
+pub below-within : (N : ℕ) (p : Float) → wholesBelow N p ≤ N
+unfolding wholesBelow
+below-within N p = count-le (λ k. lt (whole k) p) 1 N
+
+pub magnitudes-within : MagnitudesWithin
+unfolding levelFor
+magnitudes-within N factor y = below-within N (mul binary32 factor (size y))
+
+-- of the precisions admitted
+pub largest-within : (bits : ℕ) → bits ≤ 4 → largest bits ≤ 7
+largest-within zero l = lit≤ tt
+largest-within (suc zero) l = lit≤ tt
+largest-within (suc (suc zero)) l = lit≤ tt
+largest-within (suc (suc (suc zero))) l = lit≤ tt
+largest-within (suc (suc (suc (suc zero)))) l = lit≤ tt
+largest-within (suc (suc (suc (suc (suc n))))) l = absurd (omega arith)
+
+pub sign-part : (y : Float) → cond (signBit y) 128 0 ≤ 128
+sign-part y = go (signBit y)
+  where
+    go : (b : Bool) → cond b 128 0 ≤ 128
+    go true = omega arith
+    go false = omega arith
+
+pub level-byte : (N : ℕ) (factor y : Float) {m s : ℕ} → m ≡ wholesBelow N (mul binary32 factor (size y)) → s ≡ cond (signBit y) 128 0
+    → m + s ≡ byte (levelFor N factor y)
+unfolding levelFor byte
+level-byte N factor y p q = ap₂ _+_ p q

@@ -1,0 +1,45 @@
+-- Document 01, 'Decode', refusals 8 to 11: the settings, or why they are turned down.
+use mathlib.Core.Bool.{Bool, not, _&&_, _||_}
+use Prim.Native.Nat.{ℕ, _-_}
+use lib.Dec.{eqb, leb}
+use Rattle.rules.specs.Refusals.{unless, orElse}
+use Rattle.rules.specs.declared.Refusal.the-variants as Refusal
+use Rattle.rules.specs.declared.Judged.{Judged}
+use Rattle.rules.specs.declared.Judged.the-variants as Judged
+use Rattle.channel.specs.declared.Scaling.{Scaling}
+use Rattle.channel.specs.declared.Settings.{Settings}
+use Rattle.channel.specs.declared.Checked.{Checked}
+use Rattle.channel.specs.declared.Checked.the-variants.{Good, Refused}
+use Rattle.channel.specs.Scaling.{factorOf, scalingAdmitted, infiniteOrZero}
+
+-- 'Channel precision is 3 or 4 bits, message precision equal to it or one less.'
+abbrev pub precisionsAdmitted : ℕ → ℕ → Bool
+precisionsAdmitted channel message = (eqb channel 3 || eqb channel 4) && (eqb message channel || eqb message (channel - 1))
+
+-- 'An offset above 1 or limit above 255' is refused.
+abbrev pub optionsAdmitted : ℕ → ℕ → ℕ → ℕ → Bool
+optionsAdmitted phiS phiA phi0 limit = leb phiS 1 && leb phiA 1 && leb phi0 1 && leb limit 255
+
+module _ (scaling : Scaling) (channel message phiS phiA phi0 limit : ℕ) where
+  -- '8, precisions not admitted; 9, an offset above 1 or limit above 255; 10, gain or variance not finite and above zero; 11, factor
+  -- infinite or zero.'
+  abbrev pub settingsJudged : Judged
+  settingsJudged =
+      orElse (unless (precisionsAdmitted channel message) Refusal.Precision)
+      (orElse (unless (optionsAdmitted phiS phiA phi0 limit) Refusal.Option)
+      (orElse (unless (scalingAdmitted scaling) Refusal.Scaling)
+      (unless (not (infiniteOrZero (factorOf scaling))) Refusal.Factor)))
+
+  -- The factor, beside the precisions in bits, the offsets and the limit as they were given.
+  abbrev pub settings : Settings
+  settings = record { factor = factorOf scaling; channel = channel; message = message; «phi_s» = phiS; «phi_a» = phiA; «phi_0» = phi0; limit = limit }
+
+-- The settings, unless they were turned down.
+abbrev pub checked : Judged → Settings → Checked
+checked Judged.Admitted s = Good s
+checked (Judged.Refused r) s = Refused r
+
+-- The settings, or why they are turned down.
+unfoldable pub settingsOf : Scaling → ℕ → ℕ → ℕ → ℕ → ℕ → ℕ → Checked
+settingsOf scaling channel message phiS phiA phi0 limit =
+    checked (settingsJudged scaling channel message phiS phiA phi0 limit) (settings scaling channel message phiS phiA phi0 limit)

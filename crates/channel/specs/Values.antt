@@ -1,0 +1,20 @@
+-- Document 01, 'Decode', refusal 12, and the levels of all channel values. The values are f32, held in bytes.
+use mathlib.Core.List.{List}
+use Prim.Native.Nat.{ℕ, _/_}
+use lib.Ieee.{Float}
+use lib.Ieee.Scale.{finite}
+use lib.ListN.{length}
+use Rattle.rules.specs.Levels.{Level}
+use Rattle.rules.specs.Refusals.{unless, each}
+use Rattle.rules.specs.declared.Refusal.the-variants.{Value}
+use Rattle.rules.specs.declared.Judged.{Judged}
+use Rattle.words.specs.Roles.{valueAt}
+use Rattle.channel.specs.Quantiser.{levelFor}
+
+-- 'A value infinite or NaN (first index).'
+abbrev pub valuesJudged : List ℕ → Judged
+valuesJudged values = each (λ v. unless (finite (valueAt values v)) (Value v)) (length values / 4)
+
+-- The channel level of variable v.
+abbrev pub channelLevel : ℕ → Float → List ℕ → ℕ → Level
+channelLevel N factor values v = levelFor N factor (valueAt values v)

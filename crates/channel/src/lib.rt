@@ -1,0 +1,219 @@
+// The settings, and the quantiser of channel values.
+ghost use mathlib.Core.Path.{_≡_};
+ghost use mathlib.Core.Bool.{true, cond};
+ghost use Prim.Native.Nat.{_/_, _<_, _≤_};
+ghost use lib.Ieee.{binary32, ofBits};
+ghost use lib.Ieee.Scale.{finite};
+ghost use lib.ListN.{length};
+ghost use Rattle.rules.specs.Ranges.{tabulate};
+ghost use Rattle.rules.specs.Levels.{byte, largest};
+ghost use Rattle.rules.specs.declared.Judged.the-variants.{Admitted};
+ghost use Rattle.channel.specs.Scaling.{positive, factorOf, scalingAdmitted};
+ghost use Rattle.channel.specs.Quantiser.{signBit, size, wholesBelow, levelFor};
+ghost use Rattle.channel.specs.Settings.{precisionsAdmitted, optionsAdmitted, settingsOf};
+ghost use Rattle.channel.specs.Values.{valuesJudged, channelLevel};
+use rules::Judged;
+use rules::Refusal;
+
+// A plain gain, or a gain with a noise variance.
+pub enum Scaling {
+    Plain(f32),
+    Noise(f32, f32),
+}
+
+// The checked factor, beside the precisions in bits, the offsets and the limit.
+pub struct Settings {
+    pub factor: f32,
+    pub channel: u8,
+    pub message: u8,
+    pub phi_s: u8,
+    pub phi_a: u8,
+    pub phi_0: u8,
+    pub limit: u8,
+}
+
+// What a check of settings finds.
+pub enum Checked {
+    Good(Settings),
+    Refused(Refusal),
+}
+
+// Whether x is finite and above zero.
+fn is_positive(x: f32) -> bool
+    ensures { λ r. ⌜ r ≡ positive x ⌝ }
+{
+    (0.0 < x) & (x < 1.0 / 0.0)
+}
+
+// The factor of a scaling.
+pub fn factor(s: Scaling) -> f32
+    ensures { λ r. ⌜ r ≡ factorOf s ⌝ }
+{
+    match s {
+        Scaling::Plain(gain) => gain,
+        Scaling::Noise(gain, variance) => 2.0 * gain / variance,
+    }
+}
+
+// Whether the gain, and the variance where there is one, are finite and above zero.
+fn scaling_admitted(s: Scaling) -> bool
+    ensures { λ r. ⌜ r ≡ scalingAdmitted s ⌝ }
+{
+    match s {
+        Scaling::Plain(gain) => is_positive(gain),
+        Scaling::Noise(gain, variance) => is_positive(gain) & is_positive(variance),
+    }
+}
+
+// Whether these are precisions of a channel and its messages.
+fn precisions_admitted(channel: u32, message: u32) -> bool
+    ensures { λ r. ⌜ r ≡ precisionsAdmitted channel message ⌝ }
+{
+    if channel == 3 {
+        return (message == 3) | (message == 2);
+    }
+    if channel == 4 {
+        return (message == 4) | (message == 3);
+    }
+    false
+}
+
+// Whether these are offsets and a limit.
+fn options_admitted(phi_s: u32, phi_a: u32, phi_0: u32, limit: u32) -> bool
+    ensures { λ r. ⌜ r ≡ optionsAdmitted «phi_s» «phi_a» «phi_0» limit ⌝ }
+{
+    (phi_s <= 1) & (phi_a <= 1) & (phi_0 <= 1) & (limit <= 255)
+}
+
+// The settings, or why they are turned down.
+pub fn check_settings(
+    scaling: Scaling,
+    channel: u32,
+    message: u32,
+    phi_s: u32,
+    phi_a: u32,
+    phi_0: u32,
+    limit: u32,
+) -> Checked
+    ensures { λ r. ⌜ r ≡ settingsOf scaling channel message «phi_s» «phi_a» «phi_0» limit ⌝ }
+{
+    if !precisions_admitted(channel, message) {
+        return Checked::Refused(Refusal::Precision);
+    }
+    if !options_admitted(phi_s, phi_a, phi_0, limit) {
+        return Checked::Refused(Refusal::Option);
+    }
+    if !scaling_admitted(scaling) {
+        return Checked::Refused(Refusal::Scaling);
+    }
+    let f = factor(scaling);
+    if !is_positive(f) {
+        return Checked::Refused(Refusal::Factor);
+    }
+    Checked::Good(Settings {
+        factor: f,
+        channel: channel as u8,
+        message: message as u8,
+        phi_s: phi_s as u8,
+        phi_a: phi_a as u8,
+        phi_0: phi_0 as u8,
+        limit: limit as u8,
+    })
+}
+
+// The largest magnitude of a precision in bits.
+pub fn largest(bits: u8) -> u8
+    requires { ⌜ (2 ≤ bits) × (bits ≤ 4) ⌝ }
+    ensures { λ r. ⌜ r ≡ largest bits ⌝ }
+{
+    if bits == 2 {
+        return 1;
+    }
+    if bits == 3 {
+        return 3;
+    }
+    7
+}
+
+// Whether the sign bit of y is set.
+fn is_minus(y: f32) -> bool
+    requires { ⌜ finite y ≡ true ⌝ }
+    ensures { λ r. ⌜ r ≡ signBit y ⌝ }
+{
+    0x8000_0000 <= f32::to_bits(y)
+}
+
+// |y|
+fn size_of(y: f32) -> f32
+    requires { ⌜ finite y ≡ true ⌝ }
+    ensures { λ r. ⌜ r ≡ size y ⌝ }
+{
+    if is_minus(y) { -y } else { y }
+}
+
+// What the sign of y adds to its level's byte.
+fn sign_of(y: f32) -> u8
+    requires { ⌜ finite y ≡ true ⌝ }
+    ensures { λ r. ⌜ r ≡ cond (signBit y) 128 0 ⌝ }
+{
+    if is_minus(y) { 128 } else { 0 }
+}
+
+// How many of 1 to most lie strictly below p.
+fn wholes_below(p: f32, most: u8) -> u8
+    requires { ⌜ most < 128 ⌝ }
+    ensures { λ r. ⌜ (r ≡ wholesBelow most p) × (r ≤ most) ⌝ }
+{
+    let mut n: u8 = 0;
+    let mut k: u8 = 0;
+    while k < most {
+        k += 1;
+        n += ((k as f32) < p) as u8;
+    }
+    n
+}
+
+// The byte of the level of a channel value.
+pub fn level(factor: f32, y: f32, most: u8) -> u8
+    requires { ⌜ finite y ≡ true ⌝ }
+    requires { ⌜ most < 128 ⌝ }
+    ensures { λ r. ⌜ r ≡ byte (levelFor most factor y) ⌝ }
+{
+    wholes_below(factor * size_of(y), most) + sign_of(y)
+}
+
+// Whether a bit pattern is that of a finite f32.
+fn is_finite(bits: u32) -> bool
+    ensures { λ r. ⌜ r ≡ finite (ofBits binary32 bits) ⌝ }
+{
+    bits % 0x8000_0000 < 0x7f80_0000
+}
+
+// Whether all values are finite, or the first that is not.
+pub fn check_values(values: &[u8]) -> Judged
+    ensures { λ r. ⌜ r ≡ valuesJudged (now (values .entry)) ⌝ }
+{
+    let n = values.len() / 4;
+    let mut v = 0;
+    while v < n {
+        if !is_finite(words::pattern(values, v)) {
+            return Judged::Refused(Refusal::Value(v));
+        }
+        v += 1;
+    }
+    Judged::Admitted
+}
+
+// Fills levels with the bytes of the values' levels.
+pub fn quantise(values: &[u8], factor: f32, most: u8, levels: &mut [u8])
+    requires { ⌜ length (now levels) ≡ length (now values) / 4 ⌝ }
+    requires { ⌜ valuesJudged (now values) ≡ Admitted ⌝ }
+    requires { ⌜ most < 128 ⌝ }
+    ensures { λ _. ⌜ now (levels .exit) ≡ tabulate (λ v. byte (channelLevel most factor (now (values .entry)) v)) (length (now (values .entry)) / 4) ⌝ }
+{
+    let mut v: usize = 0;
+    while v < levels.len() {
+        levels[v] = level(factor, words::value(values, v), most);
+        v += 1;
+    }
+}

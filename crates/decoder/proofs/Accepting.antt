@@ -1,0 +1,158 @@
+-- The refusals of decode, in their order.
+use mathlib.Core.Path.{_≡_, refl, sym, ap, _∙_, subst}
+use mathlib.Core.Bool.{Bool, true, false}
+use Prim.Native.Nat.{ℕ, _*_, _/_, _≤_}
+use native.Mathlib.Omega.{arith}
+use borrow.Author.Tests.{eq-eqb, ne-eqb, eqb-true, leb-true}
+use lib.Dec.{eqb, leb}
+use lib.ListN.{length}
+use Rattle.rules.specs.Refusals.{unless, orElse}
+use Rattle.rules.specs.declared.Judged.{Judged}
+use Rattle.rules.specs.declared.Judged.the-variants.{Admitted, Refused}
+use Rattle.rules.specs.declared.Refusal.{Refusal}
+use Rattle.rules.specs.declared.Refusal.the-variants.{Length, Buffer}
+use Rattle.rules.proofs.Judging.{and-left, and-right, orElse-left, orElse-right, unless-true}
+use Rattle.rules.specs.declared.Report.{Report}
+use Rattle.graph.specs.Judging.{graphJudged}
+use Rattle.graph.proofs.Meaning.{graph-admitted}
+use Rattle.channel.specs.declared.Settings.{Settings}
+use Rattle.channel.specs.declared.Checked.{Checked}
+use Rattle.channel.specs.declared.Checked.the-variants as Checks
+use Rattle.channel.specs.Settings.{settings, settingsJudged, checked, settingsOf}
+use Rattle.channel.proofs.Accepted.{good-settings}
+use Rattle.channel.specs.Values.{valuesJudged}
+use Rattle.decoder.specs.Decoding.{Frame, Memory, Room, roomOf, graph, enough, frameJudged, decodeJudged, decoded, memoryAfter, Decodes}
+use Rattle.decoder.specs.Steps.{Ready, RunsInto}
+use Rattle.decoder.specs.declared.Decoded.the-variants as Answers
+
+module _ (F : Frame) (m : Room) where
+  pub graph-refused : {r : Refusal} → graphJudged (graph F) ≡ Refused r → decodeJudged F m ≡ Refused r
+  unfolding decodeJudged frameJudged
+  graph-refused a = rw a
+
+  module _ (a : graphJudged (graph F) ≡ Admitted) where
+    pub length-refused : (length (F .values) / 4 ≡ F .variables → ⊥) → decodeJudged F m ≡ Refused (Length (length (F .values) / 4))
+    unfolding decodeJudged frameJudged
+    length-refused h = rw (a, ne-eqb (length (F .values) / 4) (F .variables) h)
+
+    module _ (l : length (F .values) / 4 ≡ F .variables) where
+      counted : unless (eqb (length (F .values) / 4) (F .variables)) (Length (length (F .values) / 4)) ≡ Admitted
+      counted = rw (eq-eqb (length (F .values) / 4) (F .variables) l)
+
+      pub settings-refused : {r : Refusal} → settingsJudged (F .scaling) (F .channel) (F .message) (F .phiS) (F .phiA) (F .phi0) (F .limit) ≡ Refused r → decodeJudged F m ≡ Refused r
+      unfolding decodeJudged frameJudged
+      settings-refused c = rw (a, counted, c)
+
+      module _ (c : settingsJudged (F .scaling) (F .channel) (F .message) (F .phiS) (F .phiA) (F .phi0) (F .limit) ≡ Admitted) where
+        pub values-refused : {r : Refusal} → valuesJudged (F .values) ≡ Refused r → decodeJudged F m ≡ Refused r
+        unfolding decodeJudged frameJudged
+        values-refused d = rw (a, counted, c, d)
+
+        -- all but the memory
+        pub frame-admitted : valuesJudged (F .values) ≡ Admitted → frameJudged F ≡ Admitted
+        unfolding frameJudged
+        frame-admitted d = rw (a, counted, c, d)
+
+pub memory-refused : (F : Frame) (m : Room) → frameJudged F ≡ Admitted → enough (F .variables) (graph F .entries) m ≡ false → decodeJudged F m ≡ Refused Buffer
+unfolding decodeJudged
+memory-refused F m a b = rw (a, b)
+
+pub all-admitted : (F : Frame) (m : Room) → frameJudged F ≡ Admitted → enough (F .variables) (graph F .entries) m ≡ true → decodeJudged F m ≡ Admitted
+unfolding decodeJudged
+all-admitted F m a b = rw (a, b)
+
+-- what the answer of the settings' check tells
+pub checked-refused : (j : Judged) (s : Settings) {r : Refusal} → checked j s ≡ Checks.Refused r → j ≡ Refused r
+checked-refused Admitted s h = let z : _≡_ {A = ℕ} 0 1 = cc in absurd (omega arith)
+checked-refused (Refused x) s h = ap Refused (cc)
+
+pub checked-good : (j : Judged) (s : Settings) {t : Settings} → checked j s ≡ Checks.Good t → j ≡ Admitted
+checked-good Admitted s h = refl
+checked-good (Refused x) s h = let z : _≡_ {A = ℕ} 0 1 = cc in absurd (omega arith)
+
+-- what memory that is long enough has
+pub enough-told : (n E : ℕ) (m : Room) → enough n E m ≡ true → (n ≤ m .levels) × (E ≤ m .variableMessages) × (E ≤ m .checkMessages) × (4 * n ≤ m .sums) × (n ≤ m .bits)
+enough-told n E m h =
+    let h₁ = and-right (leb n (m .levels)) _ h in
+    let h₂ = and-right (leb E (m .variableMessages)) _ h₁ in
+    let h₃ = and-right (leb E (m .checkMessages)) _ h₂ in (
+      leb-true n (m .levels) (and-left (leb n (m .levels)) _ h),
+      leb-true E (m .variableMessages) (and-left (leb E (m .variableMessages)) _ h₁),
+      leb-true E (m .checkMessages) (and-left (leb E (m .checkMessages)) _ h₂),
+      leb-true (4 * n) (m .sums) (and-left (leb (4 * n) (m .sums)) _ h₃),
+      leb-true n (m .bits) (and-right (leb (4 * n) (m .sums)) _ h₃),
+    )
+
+-- ---- what an accepted frame tells
+
+pub record Told (F : Frame) : Type 0 where
+  pub graph : graphJudged (graph F) ≡ Admitted
+  pub count : length (F .values) / 4 ≡ F .variables
+  pub settings : settingsJudged (F .scaling) (F .channel) (F .message) (F .phiS) (F .phiA) (F .phi0) (F .limit) ≡ Admitted
+  pub values : valuesJudged (F .values) ≡ Admitted
+
+pub frame-told : (F : Frame) → frameJudged F ≡ Admitted → Told F
+unfolding frameJudged
+frame-told F h = record {
+  graph = orElse-left (graphJudged (graph F)) rest h;
+  count = eqb-true (length (F .values) / 4) (F .variables) (unless-true (eqb (length (F .values) / 4) (F .variables)) (Length (length (F .values) / 4)) (orElse-left counted others after));
+  settings = orElse-left s v (orElse-right counted others after);
+  values = orElse-right s v (orElse-right counted others after);
+}
+  where
+    s : Judged
+    s = settingsJudged (F .scaling) (F .channel) (F .message) (F .phiS) (F .phiA) (F .phi0) (F .limit)
+
+    v : Judged
+    v = valuesJudged (F .values)
+
+    counted : Judged
+    counted = unless (eqb (length (F .values) / 4) (F .variables)) (Length (length (F .values) / 4))
+
+    others : Judged
+    others = orElse s v
+
+    rest : Judged
+    rest = orElse counted others
+
+    after : rest ≡ Admitted
+    after = orElse-right (graphJudged (graph F)) rest h
+
+pub memory-told : (F : Frame) (m : Room) → decodeJudged F m ≡ Admitted → (frameJudged F ≡ Admitted) × (enough (F .variables) (graph F .entries) m ≡ true)
+unfolding decodeJudged
+memory-told F m h = (
+  orElse-left (frameJudged F) (unless (enough (F .variables) (graph F .entries) m) Buffer) h,
+  unless-true (enough (F .variables) (graph F .entries) m) Buffer (orElse-right (frameJudged F) (unless (enough (F .variables) (graph F .entries) m) Buffer) h),
+)
+
+-- ---- the answers of decode
+
+pub checked-same : (j : Judged) (s : Settings) {t : Settings} → checked j s ≡ Checks.Good t → s ≡ t
+checked-same Admitted s h = cc
+checked-same (Refused x) s h = let z : _≡_ {A = ℕ} 0 1 = cc in absurd (omega arith)
+
+abbrev pub settingsFor : Frame → Settings
+settingsFor F = settings (F .scaling) (F .channel) (F .message) (F .phiS) (F .phiA) (F .phi0) (F .limit)
+
+-- what the run of an accepted frame asks
+pub ready : (F : Frame) {s : Settings} → frameJudged F ≡ Admitted → settingsFor F ≡ s → Ready s (F .variables) (F .starts) (F .columns) (F .values)
+unfolding settingsOf
+ready F {s} h e = subst (λ t. Ready t (F .variables) (F .starts) (F .columns) (F .values)) e (record {
+  settings = good-settings (F .scaling) (F .channel) (F .message) (F .phiS) (F .phiA) (F .phi0) (F .limit) (settingsFor F) (ap (λ j. checked j (settingsFor F)) (frame-told F h .settings)) .1;
+  admitted = graph-admitted (graph F) (frame-told F h .graph);
+  count = frame-told F h .count;
+  finite = frame-told F h .values;
+})
+
+pub decodes-refused : (F : Frame) (M : Memory) {r : Refusal} → decodeJudged F (roomOf M) ≡ Refused r → Decodes F M M (Answers.Refused r)
+decodes-refused F M h = record { answer = sym (ap (decoded F) h); memory = sym (ap (λ j. memoryAfter F j M) h) }
+
+pub decodes-ran : (F : Frame) (M M′ : Memory) {s : Settings} {r : Report} → decodeJudged F (roomOf M) ≡ Admitted → settingsFor F ≡ s
+    → RunsInto s (F .variables) (F .starts) (F .columns) (F .values) r M M′ → Decodes F M M′ (Answers.Ran r)
+decodes-ran F M M′ {s} {r} h e w = record {
+  answer = ap Answers.Ran (run .report) ∙ sym (ap (decoded F) h);
+  memory = run .memory ∙ sym (ap (λ j. memoryAfter F j M) h);
+}
+  where
+    run : RunsInto (settingsFor F) (F .variables) (F .starts) (F .columns) (F .values) r M M′
+    run = subst (λ t. RunsInto t (F .variables) (F .starts) (F .columns) (F .values) r M M′) (sym e) w

@@ -1,0 +1,5 @@
+pub mod Stepping
+pub mod Running
+pub mod Accepting
+pub mod Beginning
+pub mod Twinning

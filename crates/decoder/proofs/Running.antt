@@ -1,0 +1,282 @@
+-- The memory holds the state of the iteration, from one iteration to the next, and the run stops where the rules say.
+use mathlib.Core.Path.{_≡_, refl, sym, ap, ap₂, _∙_, fun-ext, subst}
+use mathlib.Core.Bool.{Bool, true, false, cond}
+use mathlib.Core.List.{List, [], map}
+use Prim.Native.Nat.{ℕ, zero, suc, _+_, _*_, _-_, _^_, _≤_, _<_}
+use native.Mathlib.Decide.{decLt}
+use native.Mathlib.Nat.{mul-le-mul-right}
+use native.Mathlib.Numerals.{add-one}
+use native.Mathlib.Omega.{arith}
+use borrow.Author.Tests.{eq-eqb, ne-eqb}
+use lib.Dec.{eqb}
+use lib.IntN.{ℤ, pos, natAbs, _-ℤ_}
+use lib.ListN.{length, getD, List·getD-map, List·getD-eq-default}
+use mir.Syntax.{w32}
+use mir.Val.{ofZ}
+use Rattle.rules.specs.Ranges.{joined, one, tabulate, first}
+use Rattle.rules.specs.Levels.{Level, byte, levelOf, plusZero, largest}
+use Rattle.rules.specs.Graphs.{Graph, Admitted, variableDegree, unsatisfied}
+use Rattle.rules.specs.Nodes.{Offsets, fromCheck, contribution, posterior, bitOf, outgoingSum, outgoingMagnitude, outgoing, fromVariable}
+use Rattle.rules.specs.Sequence.{Scheme, State, signPreserving, levelAt, bitAt, begun, sentIn, sent, iterated, next, state, unsatisfiedIn, stop, final, report}
+use Rattle.rules.specs.declared.Report.{Report}
+use Rattle.rules.specs.declared.Verdict.the-variants.{Codeword, Stopped}
+use Rattle.rules.proofs.Ranges.{tabulate-ext, length-tabulate, getD-tabulate, First, first-is, first-only}
+use Rattle.rules.proofs.Filling.{map-tabulate}
+use Rattle.rules.proofs.Own.{level-bytes}
+use Rattle.rules.proofs.Parity.{outgoing-is-rest}
+use Rattle.rules.proofs.Bounds.{magnitude-within, messages-within, sums-bounded}
+use Rattle.words.specs.Roles.{sumAt, sumTable}
+use Rattle.words.proofs.Words.{table-ext}
+use Rattle.graph.specs.Calls.{bitOfByte}
+use Rattle.channel.proofs.Magnitudes.{largest-within}
+use Rattle.nodes.specs.Memory.{levelIn}
+use Rattle.nodes.specs.Magnitudes.{outgoingBy}
+use Rattle.nodes.proofs.Leaves.{magnitude-small}
+use Rattle.nodes.proofs.Table.{by-nine}
+use Rattle.decoder.specs.Steps.{Holds, Sized, Iterates, whenSent, Runs}
+use Rattle.decoder.proofs.Stepping.{sum-in, extra-small}
+
+-- ---- lists in bytes
+
+-- the levels of a list of bytes are those that were written
+pub levels-of : (l : List Level) → ((e : ℕ) → e < length l → levelAt l e .magnitude < 128) → levelIn (map byte l) ≡ levelAt l
+unfolding byte
+levels-of l h = fun-ext (λ e. ap levelOf (List·getD-map byte l e plusZero) ∙ level-bytes .0 (levelAt l e) (go e (decLt e (length l))))
+  where
+    go : (e : ℕ) → Dec (e < length l) → levelAt l e .magnitude < 128
+    go e (yes p) = h e p
+    go e (no p) = rw (List·getD-eq-default l plusZero {n = e} (omega arith)) (omega arith)
+
+bits-of : (l : List Bool) → bitOfByte (map one l) ≡ bitAt l
+bits-of l = fun-ext (λ v. ap (λ k. eqb k 1) (List·getD-map one l v false) ∙ go (bitAt l v))
+  where
+    go : (b : Bool) → eqb (one b) 1 ≡ b
+    go true = refl
+    go false = refl
+
+module _ (G : Graph) (ok : Admitted G) (Nq : ℕ) (φ : Offsets) (small : Nq < 8) (y : List ℕ) where
+  abbrev pub R : Scheme
+  R = signPreserving G Nq φ (levelIn y)
+
+  -- ---- messages and sums of a state
+
+  sent-length : (t : ℕ) → length (sent G R (state G R t)) ≡ G .entries
+  unfolding signPreserving state begun next iterated sent sentIn
+  sent-length zero = length-tabulate (R .firstMessage) (G .entries)
+  sent-length (suc t) = length-tabulate (R .variable (levelAt (state G R (suc t) .checkMessages))) (G .entries)
+
+  received-length : (t : ℕ) → length (state G R t .checkMessages) ≡ G .entries
+  unfolding signPreserving state begun next iterated
+  received-length zero = length-tabulate (λ e. plusZero) (G .entries)
+  received-length (suc t) = length-tabulate (R .check (levelAt (sent G R (state G R t)))) (G .entries)
+
+  sent-levels : (t : ℕ) → levelIn (map byte (sent G R (state G R t))) ≡ levelAt (sent G R (state G R t))
+  sent-levels t = levels-of (sent G R (state G R t)) (λ e l. omega (arith, messages-within G ok Nq φ (levelIn y) t e (omega (arith, sent-length t)) .0))
+
+  received-levels : (t : ℕ) → levelIn (map byte (state G R t .checkMessages)) ≡ levelAt (state G R t .checkMessages)
+  received-levels t = levels-of (state G R t .checkMessages) (λ e l. omega (arith, messages-within G ok Nq φ (levelIn y) t e (omega (arith, received-length t)) .1))
+
+  sums-small : (t v : ℕ) → v < G .variables → natAbs (getD (state G R t .sums) v (pos 0)) ≤ 8416
+  sums-small t v l =
+      let d : variableDegree G v ≤ 32 = ok .variableDegrees v l .1 in
+      let s : variableDegree G v * (2 * Nq + 1) ≤ 32 * (2 * Nq + 1) = mul-le-mul-right (2 * Nq + 1) d in
+      omega (arith, sums-bounded G ok 127 Nq φ (levelIn y) (λ v _. magnitude-small (getD y v 0)) t v l, extra-small (variableDegree G v))
+
+  -- ---- from one iteration to the next
+
+  module _ (t : ℕ) {q C S b : List ℕ} (holds : Holds G (state G R t) q C S b) where
+    pub sum-is : (v : ℕ) → v < G .variables → sumAt S v ≡ getD (state G R t .sums) v (pos 0)
+    sum-is v l = ap (λ s. sumAt s v) (holds .sums) ∙ sum-in (λ v. getD (state G R t .sums) v (pos 0)) (G .variables) v l (omega (arith, sums-small t v l))
+
+    pub sum-small : (v : ℕ) → v < G .variables → natAbs (sumAt S v) < 2 ^ 30
+    sum-small v l = omega (arith, ap natAbs (sum-is v l), sums-small t v l)
+
+  outgoing-at : (t : ℕ) {q C S b nine : List ℕ} → Holds G (state G R (suc t)) q C S b → nine ≡ tabulate (outgoingMagnitude Nq φ) 9 → (e : ℕ) → e < G .entries
+      → outgoingBy nine (sumAt S (G .column e) -ℤ contribution 1 (levelIn C e)) ≡ fromVariable G Nq φ (levelIn y) (levelAt (state G R (suc t) .checkMessages)) e
+  unfolding signPreserving state next iterated fromVariable
+  outgoing-at t {q} {C} {S} {b} {nine} holds is e u =
+      ap₂ outgoingBy is (ap₂ (λ s m. s -ℤ contribution 1 m) sum level ∙ sym (outgoing-is-rest G (levelIn y) σC e u))
+      ∙ by-nine Nq φ (outgoingSum G (levelIn y) σC e) small
+    where
+      σC : ℕ → Level
+      σC = levelAt (state G R (suc t) .checkMessages)
+
+      sum : sumAt S (G .column e) ≡ posterior G (levelIn y) σC (G .column e)
+      sum = sum-is (suc t) holds (G .column e) (ok .within e u) ∙ getD-tabulate (posterior G (levelIn y) σC) (G .variables) (G .column e) (pos 0) (ok .within e u)
+
+      level : levelIn C e ≡ σC e
+      level = ap (λ l. levelIn l e) (holds .checkMessages) ∙ ap (λ f. f e) (received-levels (suc t))
+
+  -- the variable messages after the last step
+  pub sent-holds : (t E : ℕ) {q C S b nine q₁ : List ℕ} → E ≡ G .entries → Holds G (state G R t) q C S b → nine ≡ tabulate (outgoingMagnitude Nq φ) 9
+      → q₁ ≡ whenSent t q (tabulate (λ e. byte (outgoingBy nine (sumAt S (G .column e) -ℤ contribution 1 (levelIn C e)))) E)
+      → q₁ ≡ map byte (sent G R (state G R t))
+  unfolding signPreserving state begun next iterated sent sentIn
+  sent-holds zero E k holds is e = e ∙ holds .variableMessages
+  sent-holds (suc t) E {q} {C} {S} {b} {nine} k holds is e =
+      e ∙ ap (tabulate f₁) k ∙ tabulate-ext f₁ (λ e. byte (f e)) (G .entries) (λ e u. ap byte (outgoing-at t holds is e u)) ∙ sym (map-tabulate byte f (G .entries))
+    where
+      f₁ : ℕ → ℕ
+      f₁ e = byte (outgoingBy nine (sumAt S (G .column e) -ℤ contribution 1 (levelIn C e)))
+
+      f : ℕ → Level
+      f = fromVariable G Nq φ (levelIn y) (levelAt (state G R (suc t) .checkMessages))
+
+  pub next-holds : (t : ℕ) {q C S b : List ℕ} → q ≡ map byte (sent G R (state G R t)) → Iterates G (levelIn y) (levelIn q) C S b → Holds G (state G R (t + 1)) q C S b
+  unfolding signPreserving state next iterated
+  next-holds t {q} {C} {S} {b} e it = subst (λ (k : ℕ). Holds G (state G R k) q C S b) (sym (add-one t)) (record {
+    variableMessages = e;
+    checkMessages = checks;
+    sums = it .sums ∙ table-ext 4 (λ v. ofZ w32 (posterior G (levelIn y) (levelIn C) v)) (λ v. ofZ w32 (getD (state G R (suc t) .sums) v (pos 0))) (G .variables)
+        (λ v u. ap (ofZ w32) (total v u));
+    bits = it .bits
+        ∙ tabulate-ext (λ v. one (bitOf (posterior G (levelIn y) (levelIn C) v) (levelIn y v .minus))) (λ v. one (bitOf (getD (state G R (suc t) .sums) v (pos 0)) (levelIn y v .minus))) (G .variables)
+        (λ v u. ap (λ s. one (bitOf s (levelIn y v .minus))) (total v u))
+        ∙ sym (map-tabulate one (λ v. bitOf (getD (state G R (suc t) .sums) v (pos 0)) (levelIn y v .minus)) (G .variables));
+  })
+    where
+      taken : levelIn q ≡ levelAt (sent G R (state G R t))
+      taken = ap levelIn e ∙ sent-levels t
+
+      checks : C ≡ map byte (state G R (suc t) .checkMessages)
+      checks = it .checkMessages ∙ ap (λ f. tabulate (λ e. byte (fromCheck G f e)) (G .entries)) taken ∙ sym (map-tabulate byte (fromCheck G (levelAt (sent G R (state G R t)))) (G .entries))
+
+      total : (v : ℕ) → v < G .variables → posterior G (levelIn y) (levelIn C) v ≡ getD (state G R (suc t) .sums) v (pos 0)
+      total v u = ap (λ f. posterior G (levelIn y) f v) (ap levelIn checks ∙ received-levels (suc t))
+          ∙ sym (getD-tabulate (posterior G (levelIn y) (levelAt (state G R (suc t) .checkMessages))) (G .variables) v (pos 0) u)
+
+-- ---- the stop
+
+module _ (G : Graph) (R : Scheme) where
+  pub odd-is : (t : ℕ) {q C S b : List ℕ} {k : ℕ} → Holds G (state G R t) q C S b → k ≡ unsatisfied G (bitOfByte b) → k ≡ unsatisfiedIn G R t
+  unfolding unsatisfiedIn
+  odd-is t holds e = e ∙ ap (unsatisfied G) (ap bitOfByte (holds .bits) ∙ bits-of (state G R t .bits))
+
+  -- no iteration before t is a codeword
+  pub record Onward (t : ℕ) : Type 0 where
+    pub earlier : (k : ℕ) → k < t → eqb (unsatisfiedIn G R k) 0 ≡ false
+
+  pub onward-none : Onward 0
+  onward-none = record { earlier = λ k l. absurd (omega arith) }
+
+  pub onward-more : {t k : ℕ} → Onward t → k ≡ unsatisfiedIn G R t → (k ≡ 0 → ⊥) → Onward (t + 1)
+  onward-more {t} {k} o e n = record { earlier = λ j l. go j l (decLt j t) }
+    where
+      go : (j : ℕ) → j < t + 1 → Dec (j < t) → eqb (unsatisfiedIn G R j) 0 ≡ false
+      go j l (yes p) = o .earlier j p
+      go j l (no p) = let same : j ≡ t = omega arith in rw same (ne-eqb (unsatisfiedIn G R t) 0 (λ z. n (e ∙ z)))
+
+  pub stops-at : {t limit : ℕ} → t ≤ limit → Onward t → (t < limit → eqb (unsatisfiedIn G R t) 0 ≡ true) → stop G R limit ≡ t
+  unfolding stop
+  stops-at {t} {limit} l o f = first-only (first-is (λ t. eqb (unsatisfiedIn G R t) 0) 0 limit) (record {
+    low = omega arith;
+    high = omega arith;
+    before = λ k _ u. o .earlier k u;
+    found = λ u. f (omega arith);
+  })
+
+  pub reported : (limit : ℕ) {t k : ℕ} → stop G R limit ≡ t → k ≡ unsatisfiedIn G R t
+      → record { verdict = cond (eqb k 0) Codeword Stopped; iterations = t; unsatisfied = k } ≡ report G R limit
+  unfolding report
+  reported limit {t} {k} p e =
+      sym (ap (λ (t : ℕ). record { verdict = cond (eqb (unsatisfiedIn G R t) 0) Codeword Stopped; iterations = t; unsatisfied = unsatisfiedIn G R t }) p
+      ∙ ap (λ (k : ℕ). record { verdict = cond (eqb k 0) Codeword Stopped; iterations = t; unsatisfied = k }) (sym e))
+
+  pub ended : (limit : ℕ) {t : ℕ} {q C S b : List ℕ} → stop G R limit ≡ t → Holds G (state G R t) q C S b → Holds G (final G R limit) q C S b
+  unfolding final
+  ended limit {t} {q} {C} {S} {b} p h = subst (λ (k : ℕ). Holds G (state G R k) q C S b) (sym p) h
+
+-- ---- the loop
+
+-- In the loop of a run: the lists q, C, S and b, as long as they were, hold iteration t, and no codeword came before it.
+pub record Going (G : Graph) (R : Scheme) (limit : ℕ) (q₀ C₀ S₀ b₀ q C S b : List ℕ) (t : ℕ) : Type 0 where
+  pub within : t ≤ limit
+  pub variableMessages : length q ≡ length q₀
+  pub checkMessages : length C ≡ length C₀
+  pub sums : length S ≡ length S₀
+  pub bits : length b ≡ length b₀
+  pub holds : Holds G (state G R t) q C S b
+  pub onward : Onward G R t
+
+pub going-none : (G : Graph) (R : Scheme) (limit : ℕ) {q C S b : List ℕ} → Holds G (begun G R) q C S b → Going G R limit q C S b q C S b 0
+unfolding state
+going-none G R limit h = record {
+  within = omega arith;
+  variableMessages = refl;
+  checkMessages = refl;
+  sums = refl;
+  bits = refl;
+  holds = h;
+  onward = onward-none G R;
+}
+
+module _ {G : Graph} {R : Scheme} {limit : ℕ} {q₀ C₀ S₀ b₀ q C S b : List ℕ} {t : ℕ} (going : Going G R limit q₀ C₀ S₀ b₀ q C S b t) {k : ℕ} (odd : k ≡ unsatisfied G (bitOfByte b)) where
+  -- a codeword
+  pub going-found : k ≡ 0 → Runs G R limit (record { verdict = Codeword; iterations = t; unsatisfied = k }) q C S b
+  going-found z = record { report = ap (λ v. record { verdict = v; iterations = t; unsatisfied = k }) says ∙ reported G R limit stops is; holds = ended G R limit stops (going .holds) }
+    where
+      is : k ≡ unsatisfiedIn G R t
+      is = odd-is G R t (going .holds) odd
+
+      stops : stop G R limit ≡ t
+      stops = stops-at G R (going .within) (going .onward) (λ _. eq-eqb (unsatisfiedIn G R t) 0 (sym is ∙ z))
+
+      says : Codeword ≡ cond (eqb k 0) Codeword Stopped
+      says = sym (ap (λ b. cond b Codeword Stopped) (eq-eqb k 0 z))
+
+  -- the limit
+  pub going-stopped : (k ≡ 0 → ⊥) → limit ≤ t → Runs G R limit (record { verdict = Stopped; iterations = t; unsatisfied = k }) q C S b
+  going-stopped z l = record { report = ap (λ v. record { verdict = v; iterations = t; unsatisfied = k }) says ∙ reported G R limit stops is; holds = ended G R limit stops (going .holds) }
+    where
+      is : k ≡ unsatisfiedIn G R t
+      is = odd-is G R t (going .holds) odd
+
+      stops : stop G R limit ≡ t
+      stops = stops-at G R (going .within) (going .onward) (λ u. absurd (omega arith))
+
+      says : Stopped ≡ cond (eqb k 0) Codeword Stopped
+      says = sym (ap (λ b. cond b Codeword Stopped) (ne-eqb k 0 z))
+
+  -- one iteration more
+  pub going-more : {q₁ C₁ S₁ b₁ : List ℕ} → (k ≡ 0 → ⊥) → t < limit → length q₁ ≡ length q → length C₁ ≡ length C → length S₁ ≡ length S → length b₁ ≡ length b
+      → Holds G (state G R (t + 1)) q₁ C₁ S₁ b₁ → Going G R limit q₀ C₀ S₀ b₀ q₁ C₁ S₁ b₁ (t + 1)
+  going-more z l lq lC lS lb h = record {
+    within = omega arith;
+    variableMessages = lq ∙ going .variableMessages;
+    checkMessages = lC ∙ going .checkMessages;
+    sums = lS ∙ going .sums;
+    bits = lb ∙ going .bits;
+    holds = h;
+    onward = onward-more G R (going .onward) (odd-is G R t (going .holds) odd) z;
+  }
+
+-- ---- the nine magnitudes
+
+module _ (Nq : ℕ) (φ : Offsets) {nine : List ℕ} (is : nine ≡ tabulate (outgoingMagnitude Nq φ) 9) where
+  pub nine-long : length nine ≡ 9
+  nine-long = ap length is ∙ length-tabulate (outgoingMagnitude Nq φ) 9
+
+  pub nine-small : Nq < 8 → (k : ℕ) → getD nine k 0 < 128
+  nine-small h k = go (decLt k 9)
+    where
+      go : Dec (k < 9) → getD nine k 0 < 128
+      go (yes l) = omega (arith, ap (λ b. getD b k 0) is ∙ getD-tabulate (outgoingMagnitude Nq φ) 9 k 0 l, magnitude-within Nq φ k)
+      go (no l) = rw (List·getD-eq-default nine 0 {n = k} (omega (arith, nine-long))) (omega arith)
+
+-- the largest magnitude of a message precision
+pub largest-small : (b : ℕ) → 2 ≤ b → b ≤ 4 → largest b < 8
+largest-small b l u = omega (arith, largest-within b u)
+
+-- memory of the right lengths stays so
+pub sized-again : {G : Graph} {y d q C S b q₁ C₁ S₁ b₁ : List ℕ} → Sized G y d q C S b → length q₁ ≡ length q → length C₁ ≡ length C → length S₁ ≡ length S → length b₁ ≡ length b
+    → Sized G y d q₁ C₁ S₁ b₁
+sized-again z lq lC lS lb = record {
+  admitted = z .admitted;
+  levels = z .levels;
+  degrees = z .degrees;
+  enough = z .enough;
+  variableMessages = lq ∙ z .variableMessages;
+  checkMessages = lC ∙ z .checkMessages;
+  sums = lS ∙ z .sums;
+  bits = lb ∙ z .bits;
+}

@@ -1,0 +1,119 @@
+-- One iteration: what its four calls do is what the rules say.
+use mathlib.Core.Path.{_≡_, refl, sym, ap, ap₂, _∙_}
+use mathlib.Core.Bool.{Bool, true, false, cond}
+use mathlib.Core.List.{List, [], _++_, append-nil}
+use Prim.Native.Nat.{ℕ, zero, suc, _+_, _*_, _-_, _/_, _^_, _≤_, _<_}
+use native.Mathlib.Omega.{arith}
+use lib.Dec.{eqb}
+use lib.IntN.{ℤ, pos, natAbs, _+ℤ_}
+use lib.ListN.{length, getD, drop, drop-of-length-le}
+use mir.Syntax.{w32}
+use mir.Val.{ofZ}
+use Rattle.rules.specs.Ranges.{fold, one, tabulate}
+use Rattle.rules.specs.Levels.{Level, byte, levelOf}
+use Rattle.rules.specs.Graphs.{Graph, Admitted, variableDegree, checkOf}
+use Rattle.rules.specs.Nodes.{others, fromCheck, contribution, odd, extra, channelPart, share, posterior, bitOf}
+use Rattle.rules.specs.Theorems.{largestSum}
+use Rattle.rules.proofs.Ranges.{tabulate-ext}
+use Rattle.rules.proofs.Bounds.{abs-contribution, posterior-bound}
+use Rattle.words.specs.Roles.{sumAt, sumTable}
+use Rattle.words.proofs.Words.{table-ext, length-table}
+use Rattle.words.proofs.Signed.{sum-at-table}
+use Rattle.graph.specs.Judging.{graphOf}
+use Rattle.nodes.specs.Memory.{levelIn, onStarts, onColumns}
+use Rattle.nodes.specs.Rows.{Rows}
+use Rattle.nodes.proofs.Leaves.{magnitude-small}
+use Rattle.nodes.proofs.Signed.{fits-abs}
+use Rattle.decoder.specs.Steps.{Sized, Iterates, whenSent}
+
+-- a sum in a list of sums
+pub sum-in : (f : ℕ → ℤ) (n v : ℕ) → v < n → natAbs (f v) < 2 ^ 31 → sumAt (sumTable f n) v ≡ f v
+sum-in f n v l h = ap (λ b. sumAt b v) (sym (append-nil (sumTable f n))) ∙ sum-at-table f n [] v l (fits-abs h)
+
+pub extra-small : (d : ℕ) → extra d ≤ 2
+unfolding extra
+extra-small d = go (eqb d 2) (odd d)
+  where
+    go : (a b : Bool) → cond a 0 (cond b 1 2) ≤ 2
+    go true b = omega arith
+    go false true = omega arith
+    go false false = omega arith
+
+module _ (n : ℕ) (starts columns : List ℕ) (ok : Admitted (graphOf n starts columns)) where
+  -- what the check nodes ask
+  pub rows-of : (E : ℕ) → E ≡ graphOf n starts columns .entries → Rows starts E
+  rows-of E h = record {
+    some = omega (arith, ok .checks);
+    rowed = record { begins = ok .begins; ends = refl; rises = λ i l. ok .checkDegrees i l .0 };
+    all = ok .ends ∙ sym h;
+  }
+
+  -- sums of levels and messages in bytes are small
+  pub posterior-small : (y C : List ℕ) (v : ℕ) → v < n → natAbs (posterior (graphOf n starts columns) (levelIn y) (levelIn C) v) ≤ 8416
+  posterior-small y C v l =
+      let d : variableDegree (graphOf n starts columns) v ≤ 32 = ok .variableDegrees v l .1 in
+      omega (
+        arith,
+        posterior-bound (graphOf n starts columns) (levelIn C) 127 (λ k _. magnitude-small (getD C k 0)) v 127 (levelIn y) (magnitude-small (getD y v 0)),
+        extra-small (variableDegree (graphOf n starts columns) v),
+      )
+
+  -- the channel's parts, as they stand in the list of sums
+  module _ {y d q C S b : List ℕ} (sized : Sized (graphOf n starts columns) y d q C S b) {S₁ : List ℕ}
+      (e₁ : S₁ ≡ sumTable (λ v. contribution (extra (getD d v 0)) (levelIn y v)) (length y)) where
+    part-at : (v : ℕ) → v < n → sumAt S₁ v ≡ channelPart (graphOf n starts columns) (levelIn y) v
+    unfolding channelPart
+    part-at v l =
+        ap (λ s. sumAt s v) e₁
+        ∙ sum-in (λ v. contribution (extra (getD d v 0)) (levelIn y v)) (length y) v (omega (arith, sized .levels))
+        (omega (arith, abs-contribution (extra (getD d v 0)) (levelIn y v), magnitude-small (getD y v 0), extra-small (getD d v 0)))
+        ∙ ap (λ k. contribution (extra k) (levelIn y v)) (sized .degrees v l)
+
+    pub part-small : (v : ℕ) → v < n → natAbs (sumAt S₁ v) ≤ 1024
+    unfolding channelPart
+    part-small v l =
+        omega (
+          arith,
+          ap natAbs (part-at v l),
+          abs-contribution (extra (variableDegree (graphOf n starts columns) v)) (levelIn y v),
+          magnitude-small (getD y v 0),
+          extra-small (variableDegree (graphOf n starts columns) v),
+        )
+
+    pub part-length : length S₁ ≡ 4 * n
+    part-length = ap length e₁ ∙ length-table 4 (λ v. ofZ w32 (contribution (extra (getD d v 0)) (levelIn y v))) (length y) ∙ ap (4 *_) (sized .levels)
+
+    -- all four calls
+    pub iterated-is : {C₁ S₂ b₁ : List ℕ} → C₁ ≡ tabulate (λ e. byte (fromCheck (onStarts starts) (levelIn q) e)) (length q) → length C₁ ≡ length C
+        → S₂ ≡ sumTable (λ v. sumAt S₁ v +ℤ fold _+ℤ_ (pos 0) (share (onColumns columns) (levelIn C₁) v) 0 (length C₁)) (length S₁ / 4) ++ drop (4 * (length S₁ / 4)) S₁
+        → b₁ ≡ tabulate (λ v. one (bitOf (sumAt S₂ v) (levelIn y v .minus))) (length y)
+        → Iterates (graphOf n starts columns) (levelIn y) (levelIn q) C₁ S₂ b₁
+    unfolding fromCheck others checkOf posterior share
+    iterated-is {C₁} {S₂} {b₁} e₂ l e₃ e₄ = record {
+      checkMessages = e₂ ∙ ap (tabulate (λ e. byte (fromCheck (graphOf n starts columns) (levelIn q) e))) (sized .variableMessages);
+      sums = sums-are;
+      bits = e₄ ∙ ap (tabulate (λ v. one (bitOf (sumAt S₂ v) (levelIn y v .minus)))) (sized .levels)
+          ∙ tabulate-ext (λ v. one (bitOf (sumAt S₂ v) (levelIn y v .minus))) (λ v. one (bitOf (total v) (levelIn y v .minus))) n
+          (λ v u. ap (λ s. one (bitOf s (levelIn y v .minus))) (ap (λ s. sumAt s v) sums-are ∙ sum-in total n v u (omega (arith, posterior-small y C₁ v u))));
+    }
+      where
+        total : ℕ → ℤ
+        total v = posterior (graphOf n starts columns) (levelIn y) (levelIn C₁) v
+
+        count : length S₁ / 4 ≡ n
+        count = omega (arith, part-length)
+
+        rest : drop (4 * (length S₁ / 4)) S₁ ≡ []
+        rest = drop-of-length-le S₁ {i = 4 * (length S₁ / 4)} (omega (arith, part-length))
+
+        sums-are : S₂ ≡ sumTable total n
+        sums-are =
+            e₃ ∙ ap₂ (λ (m : ℕ) t. sumTable (λ v. sumAt S₁ v +ℤ fold _+ℤ_ (pos 0) (share (onColumns columns) (levelIn C₁) v) 0 (length C₁)) m ++ t) count rest
+            ∙ append-nil (sumTable (λ v. sumAt S₁ v +ℤ fold _+ℤ_ (pos 0) (share (onColumns columns) (levelIn C₁) v) 0 (length C₁)) n)
+            ∙ table-ext 4 (λ v. ofZ w32 (sumAt S₁ v +ℤ fold _+ℤ_ (pos 0) (share (onColumns columns) (levelIn C₁) v) 0 (length C₁))) (λ v. ofZ w32 (total v)) n
+            (λ v u. ap (ofZ w32) (ap₂ (λ s k. s +ℤ fold _+ℤ_ (pos 0) (share (onColumns columns) (levelIn C₁) v) 0 k) (part-at v u) (l ∙ sized .checkMessages)))
+
+-- the last step, from iteration 1 on
+pub sent-later : (t : ℕ) (q q′ : List ℕ) → (t ≡ 0 → ⊥) → q′ ≡ whenSent t q q′
+sent-later zero q q′ h = absurd (h refl)
+sent-later (suc t) q q′ h = refl

@@ -1,0 +1,102 @@
+use mathlib.Core.Path.{ap, _∙_}
+use native.Mathlib.Omega.{arith}
+use Prim.Native.Nat.{ℕ}
+use lib.ListN.{getD-replicate, length-replicate}
+use Rattle.rules.specs.Ranges.{tabulate}
+use Rattle.rules.specs.Levels.{byte}
+use Rattle.graph.specs.Judging.{graphOf}
+use Rattle.channel.proofs.Magnitudes.{largest-within}
+use Rattle.decoder.specs.Steps.{offsetsIn, levelsUnder}
+use Rattle.decoder.proofs.Beginning.{begins-as, begun-length, begun-holds, begun-levels, ready-sized, runs-same}
+use borrow.Author.Needs.{needs}
+use Rattle.decoder.proofs.decode_exactly.Statement.{statement}
+use Rattle.decoder.proofs.decode_exactly.Tie as tie
+
+slice-aggregate-count-degrees : tie.Need-slice-aggregate-count-degrees
+slice-aggregate-count-degrees c = search needs
+
+count-degrees-requires : tie.Need-count-degrees-requires
+count-degrees-requires c κs =
+    let ok = c .before .before .before .before .before .before .before .before .before .pre .0 .admitted in
+    (ok .entries, ((λ e l. omega (arith, ok .within e l, ok .variables)), λ v l. getD-replicate 8192 v 0 0 l))
+
+largest-requires : tie.Need-largest-requires
+largest-requires c κs = search needs
+
+largest-requires-2 : tie.Need-largest-requires-2
+largest-requires-2 c κs = search needs
+
+begin-requires : tie.Need-begin-requires
+begin-requires c κs =
+    let z = c .before .before .before .before .before .before .before .before .before .before .before .before .before .before .before .before .before .before .pre .0 in (
+      (omega (arith, z .count), omega arith, omega arith),
+      (
+        (
+          z .finite,
+          omega (arith, c .before .before .before .before .before .before .largest .ensures, largest-within (c .before .before .before .before .before .before .before .before .before .before .before .before .before .before .before .before .before .before .args .s .channel) (z .settings .channel .1)),
+          omega (arith, c .before .before .before .before .before .largest2 .ensures, largest-within (c .before .before .before .before .before .before .before .before .before .before .before .before .before .before .before .before .before .before .args .s .message) (omega (arith, z .settings .message, z .settings .channel))),
+        ),
+        λ e l. omega (arith, z .admitted .within e l),
+      ),
+    )
+
+slice-aggregate-run : tie.Need-slice-aggregate-run
+slice-aggregate-run c = search needs
+
+run-requires : tie.Need-run-requires
+run-requires c κs =
+    let z = c .before .before .before .before .before .before .before .before .before .before .before .before .before .before .before .before .before .before .before .before .before .before .before .before .before .before .before .before .before .before .before .before .before .before .before .pre .0 in
+    let a = c .before .before .before .before .before .before .before .before .before .before .before .before .before .before .before .before .before .before .before .before .before .before .before .before .before .before .before .before .before .before .before .before .before .before .before .args in
+    let w = begins-as (c .before .before .before .before .before .before .before .before .before .before .before .before .before .before .before .before .before .before .before .before .before .before .before .largest .ensures) (c .before .before .before .before .before .before .before .before .before .before .before .before .before .before .before .before .before .before .before .before .before .before .largest2 .ensures) (c .before .before .before .before .before .before .before .before .before .before .before .before .before .before .before .before .begin .ensures) in (
+      (
+        z .settings,
+        ready-sized (a .n) (a .starts .now) (a .columns .now) (z .admitted) (c .before .before .before .before .before .before .before .before .before .before .before .before .before .before .before .before .before .before .before .before .before .before .before .before .before .count-degrees .kept .1 .0 ∙ length-replicate {A = ℕ} 8192 0) (λ v l. c .before .before .before .before .before .before .before .before .before .before .before .before .before .before .before .before .before .before .before .before .before .before .before .before .before .count-degrees .ensures v l)
+            (begun-length (a .n) (a .starts .now) (a .columns .now) _ (offsetsIn (a .s)) w (z .count))
+            (c .before .before .before .before .before .before .before .before .before .before .before .before .before .before .before .before .begin .kept .1 .1 .1 .1 .1 .1 .0 ∙ c .before .before .before .before .before .before .before .before .before .before .before .before .before .before .before .before .before .before .before .before .before .before .before .before .before .before .before .before .before .before .before .before .before .before .before .pre .1 .1) (c .before .before .before .before .before .before .before .before .before .before .before .before .before .before .before .before .begin .kept .1 .1 .1 .1 .1 .1 .1 .0 ∙ c .before .before .before .before .before .before .before .before .before .before .before .before .before .before .before .before .before .before .before .before .before .before .before .before .before .before .before .before .before .before .before .before .before .before .before .pre .1 .2) (c .before .before .before .before .before .before .before .before .before .before .before .before .before .before .before .before .begin .kept .1 .1 .1 .1 .1 .1 .1 .1 .0 ∙ c .before .before .before .before .before .before .before .before .before .before .before .before .before .before .before .before .before .before .before .before .before .before .before .before .before .before .before .before .before .before .before .before .before .before .before .pre .1 .3) (c .before .before .before .before .before .before .before .before .before .before .before .before .before .before .before .before .begin .kept .1 .1 .1 .1 .1 .1 .1 .1 .1 .0 ∙ c .before .before .before .before .before .before .before .before .before .before .before .before .before .before .before .before .before .before .before .before .before .before .before .before .before .before .before .before .before .before .before .before .before .before .before .pre .1 .4),
+      ),
+      begun-holds (a .n) (a .starts .now) (a .columns .now) _ (offsetsIn (a .s)) w (z .count) (c .before .before .before .before .before .before .before .before .before .before .before .before .before .before .before .before .before .before .before .before .before .before .before .before .before .before .before .before .before .before .before .before .before .before .before .pre .1 .2) (c .before .before .before .before .before .before .before .before .before .before .before .before .before .before .before .before .before .before .before .before .before .before .before .before .before .before .before .before .before .before .before .before .before .before .before .pre .1 .3),
+    )
+
+same-length : tie.Need-same-length
+same-length c = search needs
+
+same-length-2 : tie.Need-same-length-2
+same-length-2 c = search needs
+
+same-length-3 : tie.Need-same-length-3
+same-length-3 c = search needs
+
+same-length-4 : tie.Need-same-length-4
+same-length-4 c = search needs
+
+same-length-5 : tie.Need-same-length-5
+same-length-5 c = search needs
+
+returns : tie.Need-returns
+returns c =
+    let z = c .before .before .before .before .before .before .before .before .before .before .before .before .before .before .before .before .before .before .before .before .before .before .before .before .before .before .before .before .before .before .before .before .before .before .before .before .before .before .before .before .before .before .before .before .pre .0 in
+    let a = c .before .before .before .before .before .before .before .before .before .before .before .before .before .before .before .before .before .before .before .before .before .before .before .before .before .before .before .before .before .before .before .before .before .before .before .before .before .before .before .before .before .before .before .before .args in
+    let w = begins-as (c .before .before .before .before .before .before .before .before .before .before .before .before .before .before .before .before .before .before .before .before .before .before .before .before .before .before .before .before .before .before .before .before .largest .ensures) (c .before .before .before .before .before .before .before .before .before .before .before .before .before .before .before .before .before .before .before .before .before .before .before .before .before .before .before .before .before .before .before .largest2 .ensures) (c .before .before .before .before .before .before .before .before .before .before .before .before .before .before .before .before .before .before .before .before .before .before .before .before .before .begin .ensures) in
+    record {
+      levels = w .levels ∙ ap (tabulate (λ v. byte (levelsUnder (a .s) (a .values .now) v))) (z .count);
+      runs = runs-same (graphOf (a .n) (a .starts .now) (a .columns .now)) (z .admitted) _ _ _ (levelsUnder (a .s) (a .values .now))
+          (begun-levels (a .n) (a .starts .now) (a .columns .now) _ (offsetsIn (a .s)) w (z .count) (omega (arith, largest-within (a .s .channel) (z .settings .channel .1)))) (c .before .before .before .before .before .before .before .before .run .ensures);
+    }
+
+pub decode-exactly-spec : {M : Type 1} → statement M
+decode-exactly-spec =
+    tie.close
+    (tie.spec
+    slice-aggregate-count-degrees
+    count-degrees-requires
+    largest-requires
+    largest-requires-2
+    begin-requires
+    slice-aggregate-run
+    run-requires
+    same-length
+    same-length-2
+    same-length-3
+    same-length-4
+    same-length-5
+    returns)

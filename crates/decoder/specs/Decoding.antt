@@ -1,0 +1,122 @@
+-- Document 01, 'Decode': what is refused, what is answered, and what the lent memory then holds.
+use mathlib.Core.Path.{_≡_}
+use mathlib.Core.Bool.{Bool, _&&_}
+use mathlib.Core.List.{List, _++_, map}
+use Prim.Native.Nat.{ℕ, _*_, _/_}
+use lib.Dec.{eqb, leb}
+use lib.IntN.{pos}
+use lib.ListN.{length, getD, drop}
+use Rattle.rules.specs.Ranges.{one, tabulate}
+use Rattle.rules.specs.Levels.{Level, byte, largest}
+use Rattle.rules.specs.Graphs.{Graph}
+use Rattle.rules.specs.Nodes.{Offsets}
+use Rattle.rules.specs.Sequence.{Scheme, State, signPreserving, final, report}
+use Rattle.rules.specs.Refusals.{unless, orElse}
+use Rattle.rules.specs.declared.Judged.{Judged}
+use Rattle.rules.specs.declared.Judged.the-variants as Judgement
+use Rattle.rules.specs.declared.Refusal.the-variants.{Length, Buffer}
+use Rattle.words.specs.Roles.{sumTable}
+use Rattle.graph.specs.Judging.{graphOf, graphJudged}
+use Rattle.channel.specs.declared.Scaling.{Scaling}
+use Rattle.channel.specs.Scaling.{factorOf}
+use Rattle.channel.specs.Settings.{settingsJudged}
+use Rattle.channel.specs.Values.{valuesJudged, channelLevel}
+use Rattle.decoder.specs.declared.Decoded.{Decoded}
+use Rattle.decoder.specs.declared.Decoded.the-variants.{Ran, Refused}
+
+-- One frame: the graph in its lists, the channel values, and the settings as they are given.
+pub record Frame : Type 0 where
+  pub variables : ℕ
+  pub starts : List ℕ
+  pub columns : List ℕ
+  pub values : List ℕ
+  pub scaling : Scaling
+  pub channel : ℕ
+  pub message : ℕ
+  pub phiS : ℕ
+  pub phiA : ℕ
+  pub phi0 : ℕ
+  pub limit : ℕ
+
+-- The lent memory: levels, both message lists, sums and bits.
+pub record Memory : Type 0 where
+  pub levels : List ℕ
+  pub variableMessages : List ℕ
+  pub checkMessages : List ℕ
+  pub sums : List ℕ
+  pub bits : List ℕ
+
+-- Its lengths.
+pub record Room : Type 0 where
+  pub levels : ℕ
+  pub variableMessages : ℕ
+  pub checkMessages : ℕ
+  pub sums : ℕ
+  pub bits : ℕ
+
+abbrev pub roomOf : Memory → Room
+roomOf M = record {
+  levels = length (M .levels);
+  variableMessages = length (M .variableMessages);
+  checkMessages = length (M .checkMessages);
+  sums = length (M .sums);
+  bits = length (M .bits);
+}
+
+-- 'Levels (n bytes), both message lists (E bytes each), sums (n) and bits (n bytes).' A sum is four bytes.
+abbrev pub enough : ℕ → ℕ → Room → Bool
+enough n E m =
+    leb n (m .levels) && (leb E (m .variableMessages) && (leb E (m .checkMessages) && (leb (4 * n) (m .sums) && leb n (m .bits))))
+
+-- What the memory holds after a run on n variables and E entries with the channel levels y, that ends in the state σ. 'Bytes past these
+-- lengths do not change.'
+abbrev pub filled : ℕ → ℕ → (ℕ → Level) → State → Memory → Memory
+filled n E y σ M = record {
+  levels = tabulate (λ v. byte (y v)) n ++ drop n (M .levels);
+  variableMessages = map byte (σ .variableMessages) ++ drop E (M .variableMessages);
+  checkMessages = map byte (σ .checkMessages) ++ drop E (M .checkMessages);
+  sums = sumTable (λ v. getD (σ .sums) v (pos 0)) n ++ drop (4 * n) (M .sums);
+  bits = map one (σ .bits) ++ drop n (M .bits);
+}
+
+module _ (F : Frame) where
+  abbrev pub graph : Graph
+  graph = graphOf (F .variables) (F .starts) (F .columns)
+
+  -- The channel level of each variable.
+  abbrev pub levels : ℕ → Level
+  levels v = channelLevel (largest (F .channel)) (factorOf (F .scaling)) (F .values) v
+
+  abbrev pub offsetsOf : Offsets
+  offsetsOf = record { phiS = F .phiS; phiA = F .phiA; phi0 = F .phi0 }
+
+  -- The rules of the run.
+  abbrev pub scheme : Scheme
+  scheme = signPreserving graph (largest (F .message)) offsetsOf levels
+
+  -- 'The graph's five; 13, other than n values (their number); 8, precisions not admitted; 9, an offset above 1 or limit above 255; 10, gain or
+  -- variance not finite and above zero; 11, factor infinite or zero; 12, a value infinite or NaN (first index).'
+  unfoldable pub frameJudged : Judged
+  frameJudged =
+      orElse (graphJudged graph)
+      (orElse (unless (eqb (length (F .values) / 4) (F .variables)) (Length (length (F .values) / 4)))
+      (orElse (settingsJudged (F .scaling) (F .channel) (F .message) (F .phiS) (F .phiA) (F .phi0) (F .limit))
+      (valuesJudged (F .values))))
+
+  -- '6, a lent buffer too short.'
+  unfoldable pub decodeJudged : Room → Judged
+  decodeJudged m = orElse frameJudged (unless (enough (F .variables) (graph .entries) m) Buffer)
+
+  -- The answer, and the memory afterwards: 'every refusal changes no lent byte'.
+  abbrev pub decoded : Judged → Decoded
+  decoded Judgement.Admitted = Ran (report graph scheme (F .limit))
+  decoded (Judgement.Refused r) = Refused r
+
+  abbrev pub memoryAfter : Judged → Memory → Memory
+  memoryAfter Judgement.Admitted M = filled (F .variables) (graph .entries) levels (final graph scheme (F .limit)) M
+  memoryAfter (Judgement.Refused r) M = M
+
+-- What decode promises of its answer r and of the memory, M before and M′ after.
+pub record Decodes (F : Frame) (M M′ : Memory) (r : Decoded) : Type 0 where
+  pub answer : r ≡ decoded F (decodeJudged F (roomOf M))
+  pub memory : M′ ≡ memoryAfter F (decodeJudged F (roomOf M)) M

@@ -1,0 +1,4 @@
+pub mod Decoding
+pub mod Frames
+pub mod Symmetry
+pub mod Steps

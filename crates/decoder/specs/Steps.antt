@@ -1,0 +1,96 @@
+-- What the steps of a run do, on memory of exactly the right lengths.
+use mathlib.Core.Path.{_≡_}
+use mathlib.Core.List.{List, map}
+use Prim.Native.Nat.{ℕ, zero, suc, _*_, _/_, _≤_, _<_}
+use lib.Ieee.{Float}
+use lib.IntN.{pos}
+use lib.ListN.{length, getD}
+use Rattle.rules.specs.Ranges.{one, tabulate}
+use Rattle.rules.specs.Levels.{Level, byte, largest}
+use Rattle.rules.specs.Graphs.{Graph, Admitted, variableDegree}
+use Rattle.rules.specs.Nodes.{Offsets, firstMessage, firstBit, posterior, fromCheck, bitOf}
+use Rattle.rules.specs.Sequence.{Scheme, State, signPreserving, final, report}
+use Rattle.rules.specs.declared.Judged.the-variants as Judgement
+use Rattle.rules.specs.declared.Report.{Report}
+use Rattle.words.specs.Roles.{sumTable}
+use Rattle.channel.specs.declared.Settings.{Settings}
+use Rattle.channel.specs.Values.{valuesJudged, channelLevel}
+use Rattle.channel.specs.Theorems.{Admissible}
+use Rattle.graph.specs.Judging.{graphOf}
+use Rattle.decoder.specs.Decoding.{Room, Memory, filled}
+use Rattle.nodes.specs.Memory.{levelIn, onColumns}
+
+-- The lists q, C, S and b hold the state σ, in bytes.
+pub record Holds (G : Graph) (σ : State) (q C S b : List ℕ) : Type 0 where
+  pub variableMessages : q ≡ map byte (σ .variableMessages)
+  pub checkMessages : C ≡ map byte (σ .checkMessages)
+  pub sums : S ≡ sumTable (λ v. getD (σ .sums) v (pos 0)) (G .variables)
+  pub bits : b ≡ map one (σ .bits)
+
+-- Levels y, degrees d, and lists q, C, S and b of exactly the right lengths for an iteration on G.
+pub record Sized (G : Graph) (y d q C S b : List ℕ) : Type 0 where
+  pub admitted : Admitted G
+  pub levels : length y ≡ G .variables
+  pub degrees : (v : ℕ) → v < G .variables → getD d v 0 ≡ variableDegree G v
+  pub enough : G .variables ≤ length d
+  pub variableMessages : length q ≡ G .entries
+  pub checkMessages : length C ≡ G .entries
+  pub sums : length S ≡ 4 * G .variables
+  pub bits : length b ≡ G .variables
+
+-- C, S and b are what an iteration makes of the channel levels y and the variable messages q.
+pub record Iterates (G : Graph) (y q : ℕ → Level) (C S b : List ℕ) : Type 0 where
+  pub checkMessages : C ≡ tabulate (λ e. byte (fromCheck G q e)) (G .entries)
+  pub sums : S ≡ sumTable (posterior G y (levelIn C)) (G .variables)
+  pub bits : b ≡ tabulate (λ v. one (bitOf (posterior G y (levelIn C) v) (y v .minus))) (G .variables)
+
+-- What iteration 0 makes of the values; E and s are the lengths of the lists of check messages and of sums.
+pub record Begins (values : List ℕ) (factor : Float) (Nch Nq : ℕ) (columns : List ℕ) (E s : ℕ) (y q C S b : List ℕ) : Type 0 where
+  pub levels : y ≡ tabulate (λ v. byte (channelLevel Nch factor values v)) (length values / 4)
+  pub variableMessages : q ≡ tabulate (λ e. byte (firstMessage (onColumns columns) Nq (levelIn y) e)) (length columns / 2)
+  pub checkMessages : C ≡ tabulate (λ k. 0) E
+  pub sums : S ≡ tabulate (λ k. 0) s
+  pub bits : b ≡ tabulate (λ v. one (firstBit (levelIn y) v)) (length y)
+
+-- The variable messages after the last step of iteration t, which are q′ unless t is 0.
+abbrev pub whenSent : ℕ → List ℕ → List ℕ → List ℕ
+whenSent zero q q′ = q
+whenSent (suc t) q q′ = q′
+
+-- The offsets of settings.
+abbrev pub offsetsIn : Settings → Offsets
+offsetsIn s = record { phiS = s .«phi_s»; phiA = s .«phi_a»; phi0 = s .«phi_0» }
+
+-- What a run by the rules R with a limit reports, and the state that the lists then hold.
+pub record Runs (G : Graph) (R : Scheme) (limit : ℕ) (r : Report) (q C S b : List ℕ) : Type 0 where
+  pub report : r ≡ report G R limit
+  pub holds : Holds G (final G R limit) q C S b
+
+-- Checked settings, on an admitted graph, with a finite value for each variable.
+pub record Ready (s : Settings) (n : ℕ) (starts columns values : List ℕ) : Type 0 where
+  pub settings : Admissible s
+  pub admitted : Admitted (graphOf n starts columns)
+  pub count : length values / 4 ≡ n
+  pub finite : valuesJudged values ≡ Judgement.Admitted
+
+-- Memory of exactly the right lengths.
+abbrev pub exact : ℕ → List ℕ → Room → Type 0
+exact n columns m =
+    (m .levels ≡ n) × (m .variableMessages ≡ length columns / 2) × (m .checkMessages ≡ length columns / 2) × (m .sums ≡ 4 * n) × (m .bits ≡ n)
+
+-- The channel levels of values under checked settings, and the rules from them.
+abbrev pub levelsUnder : Settings → List ℕ → ℕ → Level
+levelsUnder s values v = channelLevel (largest (s .channel)) (s .factor) values v
+
+abbrev pub schemeUnder : Settings → ℕ → List ℕ → List ℕ → List ℕ → Scheme
+schemeUnder s n starts columns values = signPreserving (graphOf n starts columns) (largest (s .message)) (offsetsIn s) (levelsUnder s values)
+
+-- What the run of a frame reports, and the lists y, q, C, S and b afterwards.
+pub record RunsFrom (s : Settings) (n : ℕ) (starts columns values : List ℕ) (r : Report) (y q C S b : List ℕ) : Type 0 where
+  pub levels : y ≡ tabulate (λ v. byte (levelsUnder s values v)) n
+  pub runs : Runs (graphOf n starts columns) (schemeUnder s n starts columns values) (s .limit) r q C S b
+
+-- The same in memory that may be longer: M before, M′ after. Bytes past the lists stay.
+pub record RunsInto (s : Settings) (n : ℕ) (starts columns values : List ℕ) (r : Report) (M M′ : Memory) : Type 0 where
+  pub report : r ≡ report (graphOf n starts columns) (schemeUnder s n starts columns values) (s .limit)
+  pub memory : M′ ≡ filled n (length columns / 2) (levelsUnder s values) (final (graphOf n starts columns) (schemeUnder s n starts columns values) (s .limit)) M

@@ -1,0 +1,38 @@
+-- Demand 3 of document 01, over the values: one claim about all iterations and both runs, of the very functions in decode's contract.
+use mathlib.Core.Path.{_≡_}
+use mathlib.Core.Bool.{Bool}
+use Prim.Native.Nat.{ℕ}
+use Rattle.rules.specs.Levels.{largest}
+use Rattle.rules.specs.Symmetry.{Symmetric}
+use Rattle.rules.specs.declared.Judged.the-variants.{Admitted}
+use Rattle.channel.specs.Reversal.{Bytes, reversed}
+use Rattle.decoder.specs.Decoding.{Frame, graph, levels, offsetsOf, frameJudged}
+
+-- The frame with the sign bit of its values reversed exactly where c is 1.
+abbrev pub reversedBy : (ℕ → Bool) → Frame → Frame
+reversedBy c F = record {
+  variables = F .variables;
+  starts = F .starts;
+  columns = F .columns;
+  values = reversed c (F .values);
+  scaling = F .scaling;
+  channel = F .channel;
+  message = F .message;
+  phiS = F .phiS;
+  phiA = F .phiA;
+  phi0 = F .phi0;
+  limit = F .limit;
+}
+
+-- 'Its graph, settings and values are accepted where decode, lent long enough buffers, refuses nothing.'
+abbrev pub Accepted : Frame → Type 0
+Accepted F = frameJudged F ≡ Admitted
+
+pub record Twins (F : Frame) (c : ℕ → Bool) : Type 0 where
+  -- the reversed frame is accepted too
+  pub accepted : Accepted (reversedBy c F)
+  -- c is a codeword exactly when every iteration is mirrored; for a codeword the runs agree whatever the limit; no outgoing sum is zero
+  pub symmetric : Symmetric (graph F) (largest (F .message)) (offsetsOf F) c (levels F) (levels (reversedBy c F))
+
+abbrev pub Demand3 : Type 0
+Demand3 = (F : Frame) → Bytes (F .values) → Accepted F → (c : ℕ → Bool) → Twins F c

@@ -1,0 +1,122 @@
+-- A graph is refused by none of the five exactly when it is admitted.
+use mathlib.Core.Path.{_≡_, ap, sym, _∙_}
+use mathlib.Core.List.{List}
+use Prim.Native.Nat.{ℕ, suc, _+_, _≤_, _<_}
+use native.Mathlib.Numerals.{add-one}
+use native.Mathlib.Omega.{arith}
+use borrow.Author.Tests.{ltb-true, leb-true, eqb-true}
+use lib.Dec.{eqb, leb, ltb}
+use lib.ListN.{length, getD}
+use Rattle.rules.specs.Graphs.{Graph, Admitted}
+use Rattle.rules.specs.Refusals.{unless, orElse}
+use Rattle.rules.specs.declared.Refusal.the-variants.{Range, Length, Bit}
+use Rattle.rules.specs.declared.Refusal.{Refusal}
+use Rattle.rules.specs.declared.Judged.the-variants as Judgement
+use Rattle.rules.proofs.Judging.{orElse-left, orElse-right, orElse-both, unless-true, refused-not, all-true}
+use Rattle.graph.specs.Judging.{countsJudged, startsJudged, columnsJudged, rowsJudged, checkDegreesJudged, variableDegreesJudged, graphJudged}
+use Rattle.graph.specs.Calls.{JudgedRightly, rowJudgement, bytesJudged, bitsJudged}
+use Rattle.graph.proofs.Parts.{counts-told, counts-admitted, Starts, starts-told, starts-admitted, row-ends, columns-told, columns-admitted, rows-told, rows-admitted, check-degrees-told, check-degrees-admitted, variable-degrees-told, variable-degrees-admitted}
+
+-- none of the parts refuses
+pub record Parts (G : Graph) : Type 0 where
+  pub counts : countsJudged G ≡ Judgement.Admitted
+  pub starts : startsJudged G ≡ Judgement.Admitted
+  pub columns : columnsJudged G ≡ Judgement.Admitted
+  pub rows : rowsJudged G ≡ Judgement.Admitted
+  pub checkDegrees : checkDegreesJudged G ≡ Judgement.Admitted
+  pub variableDegrees : variableDegreesJudged G ≡ Judgement.Admitted
+
+module _ (G : Graph) where
+  pub parts-told : graphJudged G ≡ Judgement.Admitted → Parts G
+  unfolding graphJudged
+  parts-told h =
+      let after-counts = orElse-right (countsJudged G) _ h in
+      let after-starts = orElse-right (startsJudged G) _ after-counts in
+      let after-columns = orElse-right (columnsJudged G) _ after-starts in
+      let after-rows = orElse-right (rowsJudged G) _ after-columns in
+      record {
+        counts = orElse-left (countsJudged G) _ h;
+        starts = orElse-left (startsJudged G) _ after-counts;
+        columns = orElse-left (columnsJudged G) _ after-starts;
+        rows = orElse-left (rowsJudged G) _ after-columns;
+        checkDegrees = orElse-left (checkDegreesJudged G) _ after-rows;
+        variableDegrees = orElse-right (checkDegreesJudged G) _ after-rows;
+      }
+
+  pub parts-admitted : Parts G → graphJudged G ≡ Judgement.Admitted
+  unfolding graphJudged
+  parts-admitted p =
+      orElse-both (p .counts)
+      (orElse-both (p .starts)
+      (orElse-both (p .columns) (orElse-both (p .rows) (orElse-both (p .checkDegrees) (p .variableDegrees)))))
+
+  pub graph-admitted : graphJudged G ≡ Judgement.Admitted → Admitted G
+  graph-admitted h =
+      let p = parts-told h in
+      let k = counts-told G (p .counts) in
+      let s = starts-told G (p .starts) in
+      record {
+        variables = k .variables;
+        checks = k .checks;
+        entries = k .entries;
+        begins = s .begins;
+        ends = s .ends;
+        within = columns-told G (p .columns);
+        rising = rows-told G (p .rows);
+        checkDegrees = check-degrees-told G (p .checkDegrees);
+        variableDegrees = variable-degrees-told G (p .variableDegrees);
+      }
+
+  -- the starts of an admitted graph do not fall
+  pub admitted-starts : Admitted G → Starts G
+  admitted-starts a = record { begins = a .begins; ends = a .ends; rises = λ i l. omega (arith, a .checkDegrees i l .0) }
+
+  -- where row i begins and ends, as read: two to 64 entries of the graph
+  pub admitted-row : Admitted G → (i : ℕ) {a b : ℕ} → i < G .checks → a ≡ G .start i → b ≡ G .start (i + 1)
+      → (a + 2 ≤ b) × (b ≤ a + 64) × (b ≤ G .entries)
+  admitted-row a i l p q =
+      let d = a .checkDegrees i l in
+      let r : G .start (i + 1) ≡ G .start (suc i) = ap (G .start) (add-one i) in
+      (omega (arith, d .0), omega (arith, d .1), row-ends G (admitted-starts a) i l p q .1)
+
+  pub admitted-graph : Admitted G → graphJudged G ≡ Judgement.Admitted
+  admitted-graph a = parts-admitted (record {
+    counts = counts-admitted G (record { variables = a .variables; checks = a .checks; entries = a .entries });
+    starts = starts-admitted G (admitted-starts a);
+    columns = columns-admitted G (a .within);
+    rows = rows-admitted G (a .rising);
+    checkDegrees = check-degrees-admitted G (a .checkDegrees);
+    variableDegrees = variable-degrees-admitted G (a .variableDegrees);
+  })
+
+pub judged-rightly : JudgedRightly
+judged-rightly G = (graph-admitted G, admitted-graph G)
+
+-- a refused graph is not admitted
+pub graph-refused : (G : Graph) {r : Refusal} → graphJudged G ≡ Judgement.Refused r → Admitted G → ⊥
+graph-refused G h a = refused-not (sym h ∙ admitted-graph G a)
+
+-- ---- the calls on a graph
+
+pub row-admitted : (G : Graph) (i : ℕ) → rowJudgement G i ≡ Judgement.Admitted → Admitted G × (i < G .checks)
+unfolding rowJudgement
+row-admitted G i h =
+    let number = unless (ltb i (G .checks)) (Range i) in (
+      graph-admitted G (orElse-left (graphJudged G) number h),
+      ltb-true i (G .checks) (unless-true (ltb i (G .checks)) (Range i) (orElse-right (graphJudged G) number h)),
+    )
+
+pub bytes-told : (bits : List ℕ) → bytesJudged bits ≡ Judgement.Admitted → (v : ℕ) → v < length bits → getD bits v 0 ≤ 1
+unfolding bytesJudged
+bytes-told bits h v l = leb-true (getD bits v 0) 1 (all-true (λ v. leb (getD bits v 0) 1) (λ v. Bit v) (length bits) h v l)
+
+pub bits-admitted : (G : Graph) (bits : List ℕ) → bitsJudged G bits ≡ Judgement.Admitted
+    → Admitted G × (length bits ≡ G .variables) × ((v : ℕ) → v < length bits → getD bits v 0 ≤ 1)
+unfolding bitsJudged
+bits-admitted G bits h =
+    let number = unless (eqb (length bits) (G .variables)) (Length 0) in
+    let rest = orElse-right (graphJudged G) (orElse number (bytesJudged bits)) h in (
+      graph-admitted G (orElse-left (graphJudged G) (orElse number (bytesJudged bits)) h),
+      eqb-true (length bits) (G .variables) (unless-true (eqb (length bits) (G .variables)) (Length 0) (orElse-left number (bytesJudged bits) rest)),
+      bytes-told bits (orElse-right number (bytesJudged bits) rest),
+    )

@@ -1,0 +1,117 @@
+use mathlib.Core.Path.{_≡_, sym, ap, _∙_}
+use Prim.Native.Nat.{_+_, _-_, _/_, _≤_, _<_}
+use native.Mathlib.Omega.{arith}
+use borrow.Author.Needs.{needs}
+use borrow.Author.Tests.{not-true, not-false}
+use lib.ListN.{length, getD-replicate}
+use Rattle.rules.specs.Graphs.{Graph, variableDegree}
+use Rattle.rules.specs.declared.Refusal.the-variants.{Degree}
+use Rattle.rules.specs.declared.Judged.the-variants as Judgement
+use Rattle.rules.proofs.Judging.{Passed, passed-none, passed-more, passed-all, failed-at}
+use Rattle.graph.specs.Judging.{graphOf, between, variableDegreesJudged}
+use Rattle.graph.proofs.Parts.{counts-told, columns-told}
+use Rattle.graph.proofs.Loops.{variable-test, degree-few}
+use Rattle.graph.proofs.variable_degrees.Statement.{statement}
+use Rattle.graph.proofs.variable_degrees.Tie as tie
+
+abbrev Inv-loop : tie.InvT-loop
+Inv-loop n starts columns m degrees v₀ v =
+    (v ≤ n) × Passed (λ w. between 1 (variableDegree (graphOf n starts columns) w) 32) (λ w. Degree (length starts / 2 - 1 + w)) v
+
+abbrev μ-loop : tie.MeasureT-loop
+μ-loop n starts columns m degrees v₀ v = n - v
+
+-- the graph at hand
+abbrev G : tie.Start Inv-loop μ-loop → Graph
+G s = graphOf (s .args .n) (s .args .starts .now) (s .args .columns .now)
+
+-- n is at most 8,192
+small : (c : tie.In-loop Inv-loop μ-loop) → c .before .loop .v < 8192
+small c = omega (arith, counts-told _ (c .before .before .before .before .before .before .before .before .pre .0) .variables .1)
+
+-- what the call of in_range tells of variable v
+test : (c : tie.After-in-range Inv-loop μ-loop)
+    → between 1 (variableDegree (G (c .before .before .before .before .before .before .before .before .before)) (c .before .before .loop .v)) 32 ≡ c .in-range .result
+test c =
+    variable-test (G (c .before .before .before .before .before .before .before .before .before)) (c .before .before .loop .v)
+    (c .before .before .before .before .count-degrees .ensures (c .before .before .loop .v) (small (c .before))) (c .in-range .ensures)
+
+checks-requires : tie.Need-checks-requires Inv-loop μ-loop
+checks-requires c κs = search needs
+
+slice-aggregate-count-degrees : tie.Need-slice-aggregate-count-degrees Inv-loop μ-loop
+slice-aggregate-count-degrees c = search needs
+
+count-degrees-requires : tie.Need-count-degrees-requires Inv-loop μ-loop
+count-degrees-requires c κs = (
+  counts-told _ (c .before .before .before .before .pre .0) .entries,
+  (
+    (λ e l. omega (arith, columns-told _ (c .before .before .before .before .pre .1) e l, counts-told _ (c .before .before .before .before .pre .0) .variables .1)),
+    λ v l. getD-replicate 8192 v 0 0 l,
+  ),
+)
+
+loop-holds : tie.Need-loop-holds Inv-loop μ-loop
+loop-holds c = (search needs, passed-none)
+
+mul-in-range : tie.Need-mul-in-range Inv-loop μ-loop
+mul-in-range c = omega (arith, small c)
+
+array-read-in-range : tie.Need-array-read-in-range Inv-loop μ-loop
+array-read-in-range c = small c
+
+cast-in-range : tie.Need-cast-in-range Inv-loop μ-loop
+cast-in-range c =
+    omega (
+      arith,
+      degree-few (G (c .before .before .before .before .before .before .before .before)) (c .before .loop .v)
+          (c .before .before .before .count-degrees .ensures (c .before .loop .v) (small c)),
+      counts-told _ (c .before .before .before .before .before .before .before .before .pre .0) .entries,
+    )
+
+in-range-requires : tie.Need-in-range-requires Inv-loop μ-loop
+in-range-requires c κs = search needs
+
+add-t17 : tie.Need-add-t17 Inv-loop μ-loop
+add-t17 c = omega (arith, small (c .before .before))
+
+returns : tie.Need-returns Inv-loop μ-loop
+unfolding variableDegreesJudged
+returns c =
+    ap (λ m. Judgement.Refused (Degree (m + c .before .before .before .loop .v)))
+    (c .before .before .before .before .before .before .before .checks .ensures)
+    ∙ sym (failed-at (c .before .before .before .loop .inv .1) (test (c .before) ∙ not-true _ (c .if1 .taken)) (omega arith))
+
+add-v : tie.Need-add-v Inv-loop μ-loop
+add-v c = search needs
+
+loop-less : tie.Need-loop-less Inv-loop μ-loop
+loop-less c = search needs
+
+loop-again : tie.Need-loop-again Inv-loop μ-loop
+loop-again c = (search needs, passed-more (c .before .before .before .loop .inv .1) (test (c .before) ∙ not-false _ (c .if1 .left)))
+
+returns-2 : tie.Need-returns-2 Inv-loop μ-loop
+unfolding variableDegreesJudged
+returns-2 c = sym (passed-all (c .before .loop .inv .1) (omega arith))
+
+pub variable-degrees-spec : {M : Type 1} → statement M
+variable-degrees-spec =
+    tie.close
+    (tie.spec
+    Inv-loop
+    μ-loop
+    checks-requires
+    slice-aggregate-count-degrees
+    count-degrees-requires
+    loop-holds
+    mul-in-range
+    array-read-in-range
+    cast-in-range
+    in-range-requires
+    add-t17
+    returns
+    add-v
+    loop-less
+    loop-again
+    returns-2)

@@ -1,0 +1,64 @@
+-- Document 01, 'Check a graph': the five refusals, each looked for over the whole input before the next.
+use mathlib.Core.Bool.{Bool, not, _&&_, _||_}
+use mathlib.Core.List.{List}
+use Prim.Native.Nat.{ℕ, suc, _+_, _-_, _/_}
+use lib.Dec.{eqb, leb, ltb}
+use lib.ListN.{length}
+use Rattle.rules.specs.Graphs.{Graph, checkDegree, variableDegree}
+use Rattle.rules.specs.Refusals.{unless, orElse, each}
+use Rattle.rules.specs.declared.Judged.{Judged}
+use Rattle.rules.specs.declared.Refusal.the-variants.{Count, Range, Order, Degree, Start}
+use Rattle.words.specs.Roles.{startAt, columnAt}
+
+-- The graph that two byte lists hold, admitted or not. No starts make no checks, which counts as a bad m.
+abbrev pub graphOf : ℕ → List ℕ → List ℕ → Graph
+graphOf n starts columns = record {
+  variables = n;
+  checks = length starts / 2 - 1;
+  entries = length columns / 2;
+  start = startAt starts;
+  column = columnAt columns;
+}
+
+abbrev pub between : ℕ → ℕ → ℕ → Bool
+between low x high = leb low x && leb x high
+
+-- Start i of m, which is s, where the one before is last: 0 at the front, not below last, E at the end. (At the front last is s.)
+abbrev pub startFits : ℕ → ℕ → ℕ → ℕ → ℕ → Bool
+startFits i m E last s = (not (eqb i 0) || eqb s 0) && (leb last s && (not (eqb i m) || eqb s E))
+
+-- Of the entries from a to before b, the first whose column is not above its predecessor's.
+unfoldable pub spanJudged : (ℕ → ℕ) → ℕ → ℕ → Judged
+spanJudged column a b = each (λ k. unless (ltb (column (a + k)) (column (a + k + 1))) (Order (a + k + 1))) (b - a - 1)
+
+module _ (G : Graph) where
+  -- '2, a count outside its limits (n, then m, then E).'
+  unfoldable pub countsJudged : Judged
+  countsJudged =
+      orElse (unless (between 2 (G .variables) 8192) (Count 0))
+      (orElse (unless (between 1 (G .checks) 8192) (Count 0)) (unless (leb (G .entries) 32768) (Count 0)))
+
+  -- '7, starts not beginning at 0, one below the start before it, or not ending at E (first such index, the ends being 0 and m).'
+  unfoldable pub startsJudged : Judged
+  startsJudged =
+      each (λ i. unless (startFits i (G .checks) (G .entries) (G .start (i - 1)) (G .start i)) (Start i)) (suc (G .checks))
+
+  -- '3, a column not below n (its index).'
+  unfoldable pub columnsJudged : Judged
+  columnsJudged = each (λ e. unless (ltb (G .column e) (G .variables)) (Range e)) (G .entries)
+
+  -- '4, a column not above its predecessor in the row (its index).'
+  unfoldable pub rowsJudged : Judged
+  rowsJudged = each (λ i. spanJudged (G .column) (G .start i) (G .start (suc i))) (G .checks)
+
+  -- '5, a degree outside its limits (lowest check, else m + lowest variable).'
+  unfoldable pub checkDegreesJudged : Judged
+  checkDegreesJudged = each (λ i. unless (between 2 (checkDegree G i) 64) (Degree i)) (G .checks)
+
+  unfoldable pub variableDegreesJudged : Judged
+  variableDegreesJudged = each (λ v. unless (between 1 (variableDegree G v) 32) (Degree (G .checks + v))) (G .variables)
+
+  -- 'Check a graph': 2, 7, 3, 4, 5.
+  unfoldable pub graphJudged : Judged
+  graphJudged =
+      orElse countsJudged (orElse startsJudged (orElse columnsJudged (orElse rowsJudged (orElse checkDegreesJudged variableDegreesJudged))))
