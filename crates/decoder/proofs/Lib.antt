@@ -1,3 +1,4 @@
+pub mod Answers
 pub mod Stepping
 pub mod Running
 pub mod Accepting

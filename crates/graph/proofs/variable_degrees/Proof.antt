@@ -25,7 +25,7 @@ abbrev μ-loop : tie.MeasureT-loop
 abbrev G : tie.Start Inv-loop μ-loop → Graph
 G s = graphOf (s .args .n) (s .args .starts .now) (s .args .columns .now)
 
--- n is at most 8,192
+-- v is a place of the array, since n is at most 8,192
 small : (c : tie.In-loop Inv-loop μ-loop) → c .before .loop .v < 8192
 small c = omega (arith, counts-told _ (c .before .before .before .before .before .before .before .before .pre .0) .variables .1)
 

@@ -1,0 +1,61 @@
+-- Document 01, 'Trial values': every ★ case, and the whole example with its variants from their values, gathered under one table test.
+use mathlib.Core.Path.{_≡_}
+use mathlib.Core.Bool.{Bool, true, false, cond}
+use mathlib.Core.List.{List, [], _∷_, _++_, map}
+use Prim.Native.Nat.{ℕ, suc}
+use lib.Ieee.{binary32, ofBits}
+use Rattle.rules.specs.Sequence.{final, report}
+use Rattle.rules.specs.Trials as Nodes
+use Rattle.rules.specs.Trials.{verdictNumber, bitNumbers, sameList}
+use Rattle.rules.specs.declared.Report.{Report}
+use Rattle.rules.specs.declared.Verdict.{Verdict}
+use Rattle.rules.specs.declared.Verdict.the-variants.{Codeword, Stopped}
+use Rattle.words.specs.Words.{bytes}
+use Rattle.channel.specs.declared.Scaling.the-variants.{Plain}
+use Rattle.channel.specs.Trials as Levels
+use Rattle.decoder.specs.Decoding.{Frame, graph, scheme}
+use Rattle.decoder.specs.Frames.{frame}
+
+pub data Trial : Type 0 where
+  -- a channel value and its level
+  value : Levels.Trial → Trial
+  -- a variable node, a check node, or a run from its levels
+  node : Nodes.Trial → Trial
+  -- the example's graph and settings with these values, as bit patterns, and this limit: verdict, iterations, unsatisfied checks, bits
+  decodes : List ℕ → ℕ → Verdict → ℕ → ℕ → List Bool → Trial
+
+-- Numbers as bytes, lowest first.
+unfoldable pub inBytes : ℕ → List ℕ → List ℕ
+inBytes w [] = []
+inBytes w (x ∷ xs) = bytes w x ++ inBytes w xs
+
+-- 'Sheet lines .. `0 0`, `0 1`, `1 1`, `1 2`. Run text lines .. `3f800000 3 3 1 1 0 5`.'
+unfoldable pub example : List ℕ → ℕ → Frame
+example values limit =
+    frame 3 (inBytes 2 (0 ∷ 2 ∷ 4 ∷ [])) (inBytes 2 (0 ∷ 1 ∷ 1 ∷ 2 ∷ [])) (inBytes 4 values) (Plain (ofBits binary32 0x3f80_0000)) 3 3 1 1 0 limit
+
+unfoldable pub trials : List Trial
+trials =
+    map value Levels.trials ++ (map node Nodes.trials ++
+    (decodes (0x4020_0000 ∷ 0xbf00_0000 ∷ 0x3fc0_0000 ∷ []) 5 Codeword 1 0 (false ∷ false ∷ false ∷ [])
+    ∷ decodes (0xc020_0000 ∷ 0x3f00_0000 ∷ 0xbfc0_0000 ∷ []) 5 Codeword 1 0 (true ∷ true ∷ true ∷ [])
+    ∷ decodes (0x4020_0000 ∷ 0xbf00_0000 ∷ 0x3fc0_0000 ∷ []) 0 Stopped 0 2 (false ∷ true ∷ false ∷ [])
+    ∷ decodes (0 ∷ 0 ∷ 0 ∷ []) 5 Codeword 0 0 (false ∷ false ∷ false ∷ [])
+    ∷ []))
+
+unfoldable pub passes : Trial → Bool
+passes (value t) = Levels.passes t
+passes (node t) = Nodes.passes t
+passes (decodes values limit verdict t u b) =
+    let F : Frame = example values limit in
+    let r : Report = report (graph F) (scheme F) limit in
+    sameList (verdictNumber (r .verdict) ∷ r .iterations ∷ r .unsatisfied ∷ bitNumbers (final (graph F) (scheme F) limit .bits)) (verdictNumber verdict ∷ t ∷ u ∷ bitNumbers b)
+
+-- The rows of a table that fail, counted from k.
+unfoldable pub failures : ℕ → List Trial → List ℕ
+failures k [] = []
+failures k (t ∷ ts) = cond (passes t) (failures (suc k) ts) (k ∷ failures (suc k) ts)
+
+-- Every trial passes.
+abbrev pub TrialsPass : Type 0
+TrialsPass = failures 1 trials ≡ []
