@@ -1,0 +1,146 @@
+// The entries that C calls: each a call of the library, on numbers and byte slices.
+ghost use mathlib.Core.Path.{_≡_};
+ghost use Rattle.decoder.specs.Decoding.{decodeJudged};
+ghost use Rattle.decoder.specs.Frames.{frame, memory, room};
+ghost use Rattle.host.specs.Packing.{scalingOf, verdictOf, packDecoded, placeOf, HostDecodes, Small};
+use channel::Checked;
+use channel::Scaling;
+use decoder::Decoded;
+use rules::Verdict;
+
+// The scaling of a kind; another kind than 0 and 1 is turned down as a gain of zero is.
+fn scaling_of(kind: u32, gain: f32, variance: f32) -> Scaling
+    ensures { λ r. ⌜ r ≡ scalingOf kind gain variance ⌝ }
+{
+    if kind == 0 {
+        return Scaling::Plain(gain);
+    }
+    if kind == 1 {
+        return Scaling::Noise(gain, variance);
+    }
+    Scaling::Plain(0.0)
+}
+
+fn verdict_of(v: Verdict) -> u64
+    ensures { λ r. ⌜ r ≡ verdictOf v ⌝ }
+{
+    match v {
+        Verdict::Codeword => 0,
+        Verdict::Stopped => 1,
+    }
+}
+
+// The answer of decode as one number.
+fn pack_decoded(d: Decoded) -> u64
+    requires { ⌜ Small d ⌝ }
+    ensures { λ r. ⌜ r ≡ packDecoded d ⌝ }
+{
+    match d {
+        Decoded::Refused(r) => {
+            let k = r.numbered();
+            k.number as u64
+        }
+        Decoded::Ran(r) => {
+            let v = r.verdict;
+            256 * verdict_of(v) + 65536 * (r.iterations as u64) + 4294967296 * (r.unsatisfied as u64)
+        }
+    }
+}
+
+// Decodes a frame. The answer's lowest byte is the refusal's number, 0 where nothing is refused.
+#[no_mangle]
+pub extern "C" fn frame_decode(
+    n: usize,
+    starts: &[u8],
+    columns: &[u8],
+    values: &[u8],
+    kind: u32,
+    gain: f32,
+    variance: f32,
+    channel: u32,
+    message: u32,
+    phi_s: u32,
+    phi_a: u32,
+    phi_0: u32,
+    limit: u32,
+    levels: &mut [u8],
+    variable_messages: &mut [u8],
+    check_messages: &mut [u8],
+    sums: &mut [u8],
+    bits: &mut [u8],
+) -> u64
+    ensures { λ r. ⌜ HostDecodes (frame n (now (starts .entry)) (now (columns .entry)) (now (values .entry)) (scalingOf kind gain variance) channel message «phi_s» «phi_a» «phi_0» limit) (memory (now (levels .entry)) (now («variable_messages» .entry)) (now («check_messages» .entry)) (now (sums .entry)) (now (bits .entry))) (memory (now (levels .exit)) (now («variable_messages» .exit)) (now («check_messages» .exit)) (now (sums .exit)) (now (bits .exit))) r ⌝ }
+{
+    let scaling = scaling_of(kind, gain, variance);
+    let d = decoder::decode(
+        n,
+        starts,
+        columns,
+        values,
+        scaling,
+        channel,
+        message,
+        phi_s,
+        phi_a,
+        phi_0,
+        limit,
+        levels,
+        variable_messages,
+        check_messages,
+        sums,
+        bits,
+    );
+    pack_decoded(d)
+}
+
+// The place of what `frame_decode` refuses for memory of these lengths, 0 where it refuses nothing.
+#[no_mangle]
+pub extern "C" fn frame_decode_place(
+    n: usize,
+    starts: &[u8],
+    columns: &[u8],
+    values: &[u8],
+    kind: u32,
+    gain: f32,
+    variance: f32,
+    channel: u32,
+    message: u32,
+    phi_s: u32,
+    phi_a: u32,
+    phi_0: u32,
+    limit: u32,
+    levels: usize,
+    variable_messages: usize,
+    check_messages: usize,
+    sums: usize,
+    bits: usize,
+) -> usize
+    ensures { λ r. ⌜ r ≡ placeOf (decodeJudged (frame n (now (starts .entry)) (now (columns .entry)) (now (values .entry)) (scalingOf kind gain variance) channel message «phi_s» «phi_a» «phi_0» limit) (room levels «variable_messages» «check_messages» sums bits)) ⌝ }
+{
+    let scaling = scaling_of(kind, gain, variance);
+    let c = decoder::accept(
+        n,
+        starts,
+        columns,
+        values,
+        scaling,
+        channel,
+        message,
+        phi_s,
+        phi_a,
+        phi_0,
+        limit,
+        levels,
+        variable_messages,
+        check_messages,
+        sums,
+        bits,
+    );
+    match c {
+        Checked::Refused(r) => {
+            let k = r.numbered();
+            k.place
+        }
+        Checked::Good(_) => 0,
+    }
+}

@@ -1,0 +1,18 @@
+-- What the second pass owes.
+use mathlib.Core.Path.{_≡_}
+use mathlib.Core.List.{List, []}
+use Prim.Native.Nat.{ℕ}
+use Rattle.rules.specs.Graphs.{Graph}
+use Rattle.lines.specs.Lines.{pair}
+use Rattle.sheet_text.specs.Reading.{Lines, refused, lines, graphIn}
+use Rattle.sheet.specs.Reading.{graph, startsOf, columnsOf}
+
+-- The graph of the lines of a sheet.
+abbrev pub linesGraph : Lines → Graph
+linesGraph (refused r) = graphIn (pair 0 0) []
+linesGraph (lines c ps) = graphIn c ps
+
+-- The lists of a graph, in lent memory.
+pub record Stores (G : Graph) (s s′ c c′ : List ℕ) : Type 0 where
+  pub starts : s′ ≡ startsOf (graph G) s
+  pub columns : c′ ≡ columnsOf (graph G) c

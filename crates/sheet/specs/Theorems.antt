@@ -1,0 +1,25 @@
+-- Texts and admitted graphs determine each other.
+use mathlib.Core.Path.{_≡_}
+use mathlib.Core.List.{List}
+use Prim.Native.Nat.{ℕ, suc, _*_, _≤_, _<_}
+use Rattle.rules.specs.Graphs.{Graph, Admitted}
+use Rattle.sheet_text.specs.Texts.{sheetText}
+use Rattle.sheet.specs.Reading.{graph, sheetRead}
+
+-- The same graph: counts, and starts and columns on their ranges.
+pub record Same (G H : Graph) : Type 0 where
+  pub variables : G .variables ≡ H .variables
+  pub checks : G .checks ≡ H .checks
+  pub entries : G .entries ≡ H .entries
+  pub starts : (i : ℕ) → i ≤ H .checks → G .start i ≡ H .start i
+  pub columns : (e : ℕ) → e < H .entries → G .column e ≡ H .column e
+
+pub record TextsAndGraphs : Type 0 where
+  -- a text that is accepted is the text of the graph it gives, and that graph is admitted
+  pub accepted : (t : List ℕ) (s c : ℕ) (G : Graph) → sheetRead t s c ≡ graph G → Admitted G × (t ≡ sheetText G)
+  -- the text of an admitted graph is accepted where enough is lent, and gives that graph back
+  pub back : (G : Graph) → Admitted G → (s c : ℕ) → 2 * suc (G .checks) ≤ s → 2 * G .entries ≤ c
+      → (H : Graph) × (sheetRead (sheetText G) s c ≡ graph H) × Same H G
+  -- so two admitted graphs with one text are the same, and the same graph has one text
+  pub oneGraph : (G H : Graph) → Admitted G → Admitted H → sheetText G ≡ sheetText H → Same G H
+  pub oneText : (G H : Graph) → Admitted G → Same G H → sheetText G ≡ sheetText H

@@ -1,0 +1,5 @@
+pub mod Order
+pub mod Passes
+pub mod Sheets
+pub mod Entries
+pub mod Graphs

@@ -1,0 +1,5 @@
+pub mod Texts
+pub mod Lengths
+pub mod Putting
+pub mod Rows
+pub mod Judging

@@ -1,0 +1,192 @@
+// Writes a code sheet: first its length, then its text.
+ghost use mathlib.Core.Path.{_≡_};
+ghost use Prim.Native.Nat.{_+_, _-_, _*_, _/_, _<_, _≤_};
+ghost use lib.ListN.{length};
+ghost use Rattle.rules.specs.Graphs.{Admitted};
+ghost use Rattle.lines.specs.Numbers.{decimal};
+ghost use Rattle.lines.specs.Lines.{pair, lineText, linesText};
+ghost use Rattle.graph.specs.Judging.{graphOf};
+ghost use Rattle.sheet_text.specs.Texts.{rowEntries, entriesOf, sheetText};
+ghost use Rattle.sheet_writer.specs.Writing.{writeJudged, WrittenAs, Put};
+use rules::Judged;
+use rules::Refusal;
+
+// The length of the text that was written, or the refusal.
+pub enum Written {
+    Length(usize),
+    Refused(Refusal),
+}
+
+// ---- the length
+
+// How many digits a number has.
+fn digits(k: usize) -> usize
+    ensures { λ r. ⌜ (r ≡ length (decimal k)) × (r ≤ k + 1) ⌝ }
+{
+    let mut left = k;
+    let mut count = 1;
+    while 10 <= left {
+        left = left / 10;
+        count += 1;
+    }
+    count
+}
+
+// The length of a line of two numbers.
+fn line_length(a: usize, b: usize) -> usize
+    requires { ⌜ (a ≤ 8192) × (b ≤ 8192) ⌝ }
+    ensures { λ r. ⌜ (r ≡ length (lineText (pair a b))) × (r ≤ 16388) ⌝ }
+{
+    digits(a) + 1 + digits(b) + 1
+}
+
+// The length of the lines of check i.
+fn row_length(n: usize, starts: &[u8], columns: &[u8], i: usize) -> usize
+    requires { ⌜ Admitted (graphOf n (now starts) (now columns)) × (i < length (now starts) / 2 - 1) ⌝ }
+    ensures { λ r. ⌜ (r ≡ length (linesText (rowEntries (graphOf n (now (starts .entry)) (now (columns .entry))) i))) × (r ≤ 64 * 16388) ⌝ }
+{
+    let a = words::start(starts, i);
+    let b = words::start(starts, i + 1);
+    let mut total = 0;
+    let mut k = 0;
+    while a + k < b {
+        total += line_length(i, words::column(columns, a + k));
+        k += 1;
+    }
+    total
+}
+
+// The length of the lines of all entries.
+fn rows_length(n: usize, starts: &[u8], columns: &[u8]) -> usize
+    requires { ⌜ Admitted (graphOf n (now starts) (now columns)) ⌝ }
+    ensures { λ r. ⌜ (r ≡ length (linesText (entriesOf (graphOf n (now (starts .entry)) (now (columns .entry)))))) × (r ≤ 8192 * (64 * 16388)) ⌝ }
+{
+    let m = starts.len() / 2 - 1;
+    let mut total = 0;
+    let mut i = 0;
+    while i < m {
+        total += row_length(n, starts, columns, i);
+        i += 1;
+    }
+    total
+}
+
+// The length of the sheet: two fixed lines, of 17 and 15 bytes, the counts and the entries.
+fn sheet_length(n: usize, starts: &[u8], columns: &[u8]) -> usize
+    requires { ⌜ Admitted (graphOf n (now starts) (now columns)) ⌝ }
+    ensures { λ r. ⌜ r ≡ length (sheetText (graphOf n (now (starts .entry)) (now (columns .entry)))) ⌝ }
+{
+    let counts = line_length(n, starts.len() / 2 - 1);
+    17 + counts + 15 + rows_length(n, starts, columns)
+}
+
+// Whether a graph is admitted and its sheet has room: number and place of what `write` refuses for a buffer of so many bytes.
+pub fn judge_write(n: usize, starts: &[u8], columns: &[u8], room: usize) -> Judged
+    ensures { λ r. ⌜ r ≡ writeJudged (graphOf n (now (starts .entry)) (now (columns .entry))) room ⌝ }
+{
+    let j = graph::check(n, starts, columns);
+    if let Judged::Refused(r) = j {
+        return Judged::Refused(r);
+    }
+    if room < sheet_length(n, starts, columns) {
+        return Judged::Refused(Refusal::Buffer);
+    }
+    Judged::Admitted
+}
+
+// ---- the text
+
+// Puts a fixed text at a place. Each `put` answers the place after what it put.
+fn put_fixed(text: &mut [u8], at: usize, x: &[u8]) -> usize
+    requires { ⌜ at + length (now x) ≤ length (now text) ⌝ }
+    ensures { λ r. ⌜ Put (now (x .entry)) (now (text .entry)) (now (text .exit)) at r ⌝ }
+{
+    let mut k = 0;
+    while k < x.len() {
+        text[at + k] = x[k];
+        k += 1;
+    }
+    at + k
+}
+
+// Puts the digits of a number.
+fn put_number(text: &mut [u8], at: usize, k: usize) -> usize
+    requires { ⌜ at + length (decimal k) ≤ length (now text) ⌝ }
+    ensures { λ r. ⌜ Put (decimal k) (now (text .entry)) (now (text .exit)) at r ⌝ }
+{
+    if k < 10 {
+        text[at] = b'0' + k as u8;
+        return at + 1;
+    }
+    let last = put_number(text, at, k / 10);
+    text[last] = b'0' + (k % 10) as u8;
+    last + 1
+}
+
+// Puts a line of two numbers.
+fn put_line(text: &mut [u8], at: usize, a: usize, b: usize) -> usize
+    requires { ⌜ at + length (lineText (pair a b)) ≤ length (now text) ⌝ }
+    ensures { λ r. ⌜ Put (lineText (pair a b)) (now (text .entry)) (now (text .exit)) at r ⌝ }
+{
+    let i = put_number(text, at, a);
+    text[i] = b' ';
+    let j = put_number(text, i + 1, b);
+    text[j] = b'\n';
+    j + 1
+}
+
+// Puts the lines of check i.
+fn put_row(text: &mut [u8], at: usize, n: usize, starts: &[u8], columns: &[u8], i: usize) -> usize
+    requires { ⌜ Admitted (graphOf n (now starts) (now columns)) × (i < length (now starts) / 2 - 1) ⌝ }
+    requires { ⌜ at + length (linesText (rowEntries (graphOf n (now starts) (now columns)) i)) ≤ length (now text) ⌝ }
+    ensures { λ r. ⌜ Put (linesText (rowEntries (graphOf n (now (starts .entry)) (now (columns .entry))) i)) (now (text .entry)) (now (text .exit)) at r ⌝ }
+{
+    let a = words::start(starts, i);
+    let b = words::start(starts, i + 1);
+    let mut next = at;
+    let mut k = 0;
+    while a + k < b {
+        next = put_line(text, next, i, words::column(columns, a + k));
+        k += 1;
+    }
+    next
+}
+
+// Puts the lines of all entries.
+fn put_rows(text: &mut [u8], at: usize, n: usize, starts: &[u8], columns: &[u8]) -> usize
+    requires { ⌜ Admitted (graphOf n (now starts) (now columns)) ⌝ }
+    requires { ⌜ at + length (linesText (entriesOf (graphOf n (now starts) (now columns)))) ≤ length (now text) ⌝ }
+    ensures { λ r. ⌜ Put (linesText (entriesOf (graphOf n (now (starts .entry)) (now (columns .entry))))) (now (text .entry)) (now (text .exit)) at r ⌝ }
+{
+    let m = starts.len() / 2 - 1;
+    let mut next = at;
+    let mut i = 0;
+    while i < m {
+        next = put_row(text, next, n, starts, columns, i);
+        i += 1;
+    }
+    next
+}
+
+// Puts the sheet at the front.
+fn put_sheet(text: &mut [u8], n: usize, starts: &[u8], columns: &[u8]) -> usize
+    requires { ⌜ Admitted (graphOf n (now starts) (now columns)) ⌝ }
+    requires { ⌜ length (sheetText (graphOf n (now starts) (now columns))) ≤ length (now text) ⌝ }
+    ensures { λ r. ⌜ Put (sheetText (graphOf n (now (starts .entry)) (now (columns .entry)))) (now (text .entry)) (now (text .exit)) 0 r ⌝ }
+{
+    let counts = put_fixed(text, 0, b"variables checks\n");
+    let titles = put_line(text, counts, n, starts.len() / 2 - 1);
+    let entries = put_fixed(text, titles, b"check variable\n");
+    put_rows(text, entries, n, starts, columns)
+}
+
+// Writes the sheet of a graph.
+pub fn write(n: usize, starts: &[u8], columns: &[u8], text: &mut [u8]) -> Written
+    ensures { λ r. ⌜ WrittenAs (writeJudged (graphOf n (now (starts .entry)) (now (columns .entry))) (length (now (text .entry)))) (graphOf n (now (starts .entry)) (now (columns .entry))) r (now (text .entry)) (now (text .exit)) ⌝ }
+{
+    let j = judge_write(n, starts, columns, text.len());
+    if let Judged::Refused(r) = j {
+        return Written::Refused(r);
+    }
+    Written::Length(put_sheet(text, n, starts, columns))
+}
