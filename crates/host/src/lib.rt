@@ -42,7 +42,9 @@ fn pack_decoded(d: Decoded) -> u64
         }
         Decoded::Ran(r) => {
             let v = r.verdict;
-            256 * verdict_of(v) + 65536 * (r.iterations as u64) + 4294967296 * (r.unsatisfied as u64)
+            256 * verdict_of(v)
+                + 65536 * (r.iterations as u64)
+                + 4294967296 * (r.unsatisfied as u64)
         }
     }
 }
