@@ -1,7 +1,7 @@
 -- The parts of a sheet's text, and how long they are.
-use mathlib.Core.Path.{_≡_, refl, sym, ap, _∙_}
-use mathlib.Core.List.{List, [], _∷_, _++_, append-assoc, append-nil}
-use Prim.Native.Nat.{ℕ, zero, suc, _+_, _*_, _/_, _≤_, _<_}
+use mathlib.Core.Path.{_≡_, refl, ap, _∙_}
+use mathlib.Core.List.{List, [], _∷_, _++_, append-nil}
+use Prim.Native.Nat.{ℕ, zero, suc, _+_, _/_, _≤_, _<_}
 use mathlib.Core.Logic.{⊎-elim}
 use native.Mathlib.Nat.{eq-or-lt-of-le, le-of-suc-le-suc}
 use native.Mathlib.Numerals.{add-one}
@@ -14,7 +14,7 @@ use Rattle.lines.specs.Numbers.{decimal}
 use Rattle.lines.specs.Lines.{Pair, pair, lineText, linesText}
 use Rattle.lines.proofs.Numbers.{decimal-digit, decimal-more}
 use Rattle.lines.proofs.Lines.{lines-append}
-use Rattle.sheet_text.specs.Texts.{heading, titles, sheetOf, rowEntries, entriesOf, sheetText}
+use Rattle.sheet_text.specs.Texts.{sheetOf, rowEntries, entriesOf, sheetText}
 
 -- ---- numbers and lines
 
@@ -38,9 +38,8 @@ one-line : (p : Pair) → linesText (p ∷ []) ≡ lineText p
 unfolding linesText
 one-line p = append-nil (lineText p)
 
--- ---- texts that are put together from k on
+-- ---- texts one after the other: one more, which lies within all
 
--- one more, and it lies within all
 pub joined-more : (f : ℕ → List ℕ) (k : ℕ) → joined f (k + 1) ≡ joined f k ++ f k
 unfolding joined
 joined-more f k = rw add-one

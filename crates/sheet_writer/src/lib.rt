@@ -142,10 +142,10 @@ fn put_row(text: &mut [u8], at: usize, n: usize, starts: &[u8], columns: &[u8], 
     ensures { λ r. ⌜ Put (linesText (rowEntries (graphOf n (now (starts .entry)) (now (columns .entry))) i)) (now (text .entry)) (now (text .exit)) at r ⌝ }
 {
     let a = words::start(starts, i);
-    let b = words::start(starts, i + 1);
+    let end = words::start(starts, i + 1);
     let mut next = at;
     let mut k = 0;
-    while a + k < b {
+    while a + k < end {
         next = put_line(text, next, i, words::column(columns, a + k));
         k += 1;
     }

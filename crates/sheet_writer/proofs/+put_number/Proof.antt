@@ -1,5 +1,4 @@
-use mathlib.Core.Path.{sym}
-use Prim.Native.Nat.{ℕ, _≤_, _<_}
+use Prim.Native.Nat.{ℕ, _<_}
 use native.Mathlib.Omega.{arith}
 use lib.ListN.{length-set}
 use borrow.Fn.Kinds.{In}
@@ -67,7 +66,7 @@ module _ (t : ℕ) where
       )
 
   same-length-2 : lts.Need-same-length-2 (below, Post) here Post
-  same-length-2 c = put-long (put-more (omega arith) (c .before .before .put-number .ensures))
+  same-length-2 c = simp length-set (put-long (c .before .before .put-number .ensures))
 
   returns-2 : lts.Need-returns-2 (below, Post) here Post
   returns-2 c = put-more (omega arith) (c .before .before .put-number .ensures)

@@ -24,7 +24,9 @@ enum-known-j : tie.Need-enum-known-j
 enum-known-j c = search needs
 
 returns : tie.Need-returns
-returns c = sym (graph-turned (G (c .before .before .before .before .before .before)) (c .before .before .before .before .before .before .args .room) (sym (c .before .before .before .check .ensures) ∙ c .before .j .given .1))
+returns c =
+    let s = c .before .before .before .before .before .before in
+    sym (graph-turned (G s) (s .args .room) (sym (c .before .before .before .check .ensures) ∙ c .before .j .given .1))
 
 enum-told : tie.Need-enum-told
 enum-told c = search needs
@@ -34,11 +36,13 @@ sheet-length-requires c κs = graph-admitted (G (c .before .before .before .befo
 
 returns-2 : tie.Need-returns-2
 returns-2 c =
-    sym (buffer-turned (G (c .before .before .before .before .before .before .before)) (c .before .before .before .before .before .before .before .args .room) (judged (c .before .before)) (c .before .sheet-length .ensures) (c .if1 .taken))
+    let s = c .before .before .before .before .before .before .before in
+    sym (buffer-turned (G s) (s .args .room) (judged (c .before .before)) (c .before .sheet-length .ensures) (c .if1 .taken))
 
 returns-3 : tie.Need-returns-3
 returns-3 c =
-    sym (none-turned (G (c .before .before .before .before .before .before .before)) (c .before .before .before .before .before .before .before .args .room) (judged (c .before .before)) (c .before .sheet-length .ensures) (omega arith))
+    let s = c .before .before .before .before .before .before .before in
+    sym (none-turned (G s) (s .args .room) (judged (c .before .before)) (c .before .sheet-length .ensures) (omega arith))
 
 pub judge-write-spec : {M : Type 1} → statement M
 judge-write-spec =

@@ -1,3 +1,4 @@
+use mathlib.Core.Path.{_∙_}
 use native.Mathlib.Omega.{arith}
 use lib.ListN.{length-set}
 use Rattle.sheet_writer.proofs.Texts.{line-long}
@@ -9,28 +10,49 @@ put-number-requires : tie.Need-put-number-requires
 put-number-requires c κs = omega (arith, line-long (c .before .before .args .a) (c .before .before .args .b))
 
 slice-write-text : tie.Need-slice-write-text
-slice-write-text c = omega (arith, line-long (c .before .before .before .before .before .args .a) (c .before .before .before .before .before .args .b), c .before .before .put-number .ensures .after, put-long (c .before .before .put-number .ensures))
+slice-write-text c =
+    let a = c .before .before .before .before .before .args in
+    let p = c .before .before .put-number .ensures in
+    omega (arith, line-long (a .a) (a .b), put-long p)
 
 add-put-number : tie.Need-add-put-number
-add-put-number c = omega (arith, line-long (c .before .before .before .before .before .before .args .a) (c .before .before .before .before .before .before .args .b), c .before .before .before .put-number .ensures .after, put-long (c .before .before .before .put-number .ensures))
+add-put-number c =
+    let a = c .before .before .before .before .before .before .args in
+    let p = c .before .before .before .put-number .ensures in
+    omega (arith, line-long (a .a) (a .b), put-long p)
 
 put-number-requires-2 : tie.Need-put-number-requires-2
 put-number-requires-2 c κs =
-    simp length-set (omega (arith, line-long (c .before .before .before .before .before .before .args .a) (c .before .before .before .before .before .before .args .b), c .before .before .before .put-number .ensures .after, put-long (c .before .before .before .put-number .ensures)))
+    let a = c .before .before .before .before .before .before .args in
+    let p = c .before .before .before .put-number .ensures in
+    simp length-set (omega (arith, line-long (a .a) (a .b), put-long p))
 
 slice-write-text-2 : tie.Need-slice-write-text-2
 slice-write-text-2 c =
-    omega (arith, line-long (c .before .before .before .before .before .before .before .before .before .args .a) (c .before .before .before .before .before .before .before .before .before .args .b), c .before .before .before .before .before .before .put-number .ensures .after, put-long (c .before .before .before .before .before .before .put-number .ensures), c .before .before .put-number2 .ensures .after, simp length-set at (put-long (c .before .before .put-number2 .ensures)))
+    let a = c .before .before .before .before .before .before .before .before .before .args in
+    let p = c .before .before .before .before .before .before .put-number .ensures in
+    let q = c .before .before .put-number2 .ensures in
+    omega (arith, line-long (a .a) (a .b), put-long p, simp length-set at (put-long q))
 
 add-result : tie.Need-add-result
 add-result c =
-    omega (arith, line-long (c .before .before .before .before .before .before .before .before .before .args .a) (c .before .before .before .before .before .before .before .before .before .args .b), c .before .before .before .before .before .before .put-number .ensures .after, put-long (c .before .before .before .before .before .before .put-number .ensures), c .before .before .put-number2 .ensures .after)
+    let a = c .before .before .before .before .before .before .before .before .before .args in
+    let p = c .before .before .before .before .before .before .put-number .ensures in
+    let q = c .before .before .put-number2 .ensures in
+    omega (arith, line-long (a .a) (a .b), put-long p)
 
 same-length : tie.Need-same-length
-same-length c = put-long (put-fields (c .before .before .before .before .before .before .before .before .before .args .a) (c .before .before .before .before .before .before .before .before .before .args .b) (c .before .before .before .before .before .before .put-number .ensures) (c .before .before .put-number2 .ensures))
+same-length c =
+    let p = c .before .before .before .before .before .before .put-number .ensures in
+    let q = c .before .before .put-number2 .ensures in
+    simp length-set (put-long q ∙ simp length-set (put-long p))
 
 returns : tie.Need-returns
-returns c = put-fields (c .before .before .before .before .before .before .before .before .before .args .a) (c .before .before .before .before .before .before .before .before .before .args .b) (c .before .before .before .before .before .before .put-number .ensures) (c .before .before .put-number2 .ensures)
+returns c =
+    let a = c .before .before .before .before .before .before .before .before .before .args in
+    let p = c .before .before .before .before .before .before .put-number .ensures in
+    let q = c .before .before .put-number2 .ensures in
+    put-fields (a .a) (a .b) p q
 
 pub put-line-spec : {M : Type 1} → statement M
 put-line-spec =

@@ -10,11 +10,11 @@ use Rattle.sheet_writer.proofs.put_row.Statement.{statement}
 use Rattle.sheet_writer.proofs.put_row.Tie as tie
 
 abbrev Inv-loop : tie.InvT-loop
-Inv-loop text₀ at n starts columns i a b next₀ k₀ text next k =
-    Row (graphOf n starts columns) i a b × (a + k ≤ b) × PutTo (entryLine (graphOf n starts columns) i) text₀ text at next k
+Inv-loop text₀ at n starts columns i a end next₀ k₀ text next k =
+    Row (graphOf n starts columns) i a end × (a + k ≤ end) × PutTo (entryLine (graphOf n starts columns) i) text₀ text at next k
 
 abbrev μ-loop : tie.MeasureT-loop
-μ-loop text₀ at n starts columns i a b next₀ k₀ text next k = b - (a + k)
+μ-loop text₀ at n starts columns i a end next₀ k₀ text next k = end - (a + k)
 
 -- the graph at hand
 abbrev G : tie.Start Inv-loop μ-loop → Graph
@@ -31,7 +31,8 @@ start-requires-2 c κs = search needs
 
 loop-holds : tie.Need-loop-holds Inv-loop μ-loop
 loop-holds c =
-    let r = row-read (c .before .before .before .before .before .pre .0 .0) (c .before .before .before .before .before .pre .0 .1) (c .before .start .ensures .0) (c .start2 .ensures .0) in
+    let h = c .before .before .before .before .before .pre .0 in
+    let r = row-read (h .0) (h .1) (c .before .start .ensures .0) (c .start2 .ensures .0) in
     (r, omega arith, put-begun)
 
 add-loop : tie.Need-add-loop Inv-loop μ-loop
@@ -45,8 +46,10 @@ column-requires c κs = search needs
 
 put-line-requires : tie.Need-put-line-requires Inv-loop μ-loop
 put-line-requires c κs =
-    put-room (checkDegree (G (c .before .before .before .before .before .before .before .before .before)) (c .before .before .before .before .before .before .before .before .before .args .i)) (row-lines (G (c .before .before .before .before .before .before .before .before .before)) (c .before .before .before .before .before .before .before .before .before .args .i)) (c .before .before .before .loop .inv .2) (c .before .before .before .before .before .before .before .before .before .pre .1) (omega arith)
-    (row-line (c .before .before .before .loop .k) (c .before .before .before .loop .inv .0) (c .column .ensures .0))
+    let s = c .before .before .before .before .before .before .before .before .before in
+    let o = c .before .before .before .loop in
+    let e = row-line (o .k) (o .inv .0) (c .column .ensures .0) in
+    put-room (checkDegree (G s) (s .args .i)) (row-lines (G s) (s .args .i)) (o .inv .2) (s .pre .1) (omega arith) e
 
 add-k : tie.Need-add-k Inv-loop μ-loop
 add-k c = search needs
@@ -55,17 +58,18 @@ loop-less : tie.Need-loop-less Inv-loop μ-loop
 loop-less c = search needs
 
 loop-again : tie.Need-loop-again Inv-loop μ-loop
-loop-again c = (
-  c .before .before .before .before .before .before .loop .inv .0,
-  search needs,
-  put-next (c .before .before .before .before .before .before .loop .inv .2) (c .before .before .put-line .ensures) (row-line (c .before .before .before .before .before .before .loop .k) (c .before .before .before .before .before .before .loop .inv .0) (c .before .before .before .column .ensures .0)),
-)
+loop-again c =
+    let o = c .before .before .before .before .before .before .loop in
+    let e = row-line (o .k) (o .inv .0) (c .before .before .before .column .ensures .0) in
+    (o .inv .0, search needs, put-next (o .inv .2) (c .before .before .put-line .ensures) e)
 
 same-length : tie.Need-same-length Inv-loop μ-loop
 same-length c = put-long (c .before .loop .inv .2 .put)
 
 returns : tie.Need-returns Inv-loop μ-loop
-returns c = put-all (omega arith) (row-lines (G (c .before .before .before .before .before .before .before)) (c .before .before .before .before .before .before .before .args .i)) (c .before .loop .inv .2)
+returns c =
+    let s = c .before .before .before .before .before .before .before in
+    put-all (omega arith) (row-lines (G s) (s .args .i)) (c .before .loop .inv .2)
 
 pub put-row-spec : {M : Type 1} → statement M
 put-row-spec =

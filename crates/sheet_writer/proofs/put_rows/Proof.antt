@@ -26,10 +26,9 @@ loop-holds : tie.Need-loop-holds Inv-loop μ-loop
 loop-holds c = (search needs, put-begun)
 
 put-row-requires : tie.Need-put-row-requires Inv-loop μ-loop
-put-row-requires c κs = (
-  (c .before .before .before .before .before .before .pre .0, omega arith),
-  put-room (G (c .before .before .before .before .before .before) .checks) (all-lines (G (c .before .before .before .before .before .before))) (c .before .before .loop .inv .1) (c .before .before .before .before .before .before .pre .1) (omega arith) refl,
-)
+put-row-requires c κs =
+    let s = c .before .before .before .before .before .before in
+    ((s .pre .0, omega arith), put-room (G s .checks) (all-lines (G s)) (c .before .before .loop .inv .1) (s .pre .1) (omega arith) refl)
 
 add-i : tie.Need-add-i Inv-loop μ-loop
 add-i c = search needs

@@ -21,27 +21,36 @@ sub-put-line : tie.Need-sub-put-line
 sub-put-line c = search needs
 
 put-line-requires : tie.Need-put-line-requires
-put-line-requires c κs = omega (arith, sheet-long (G (c .before .before .before .before .before .before .before .before .before)), c .before .before .before .put-fixed .ensures .after, put-long (c .before .before .before .put-fixed .ensures))
+put-line-requires c κs =
+    let p = c .before .before .before .put-fixed .ensures in
+    omega (arith, sheet-long (G (c .before .before .before .before .before .before .before .before .before)), put-long p)
 
 slice-aggregate-put-fixed-2 : tie.Need-slice-aggregate-put-fixed-2
 slice-aggregate-put-fixed-2 c = search needs
 
 put-fixed-requires-2 : tie.Need-put-fixed-requires-2
 put-fixed-requires-2 c κs =
-    omega (arith, sheet-long (G (c .before .before .before .before .before .before .before .before .before .before .before .before .before .before)), c .before .before .before .before .before .before .before .before .put-fixed .ensures .after, put-long (c .before .before .before .before .before .before .before .before .put-fixed .ensures), c .before .before .before .before .put-line .ensures .after, put-long (c .before .before .before .before .put-line .ensures))
+    let p = c .before .before .before .before .before .before .before .before .put-fixed .ensures in
+    let q = c .before .before .before .before .put-line .ensures in
+    omega (arith, sheet-long (G (c .before .before .before .before .before .before .before .before .before .before .before .before .before .before)), put-long p, put-long q)
 
 put-rows-requires : tie.Need-put-rows-requires
-put-rows-requires c κs = (
-  c .before .before .before .before .before .before .before .before .before .before .before .before .before .before .before .before .before .before .pre .0,
-  omega (arith, c .before .before .before .before .before .before .before .before .before .before .before .before .before .before .before .before .before .before .pre .1, sheet-long (G (c .before .before .before .before .before .before .before .before .before .before .before .before .before .before .before .before .before .before)), c .before .before .before .before .before .before .before .before .before .before .before .before .put-fixed .ensures .after, put-long (c .before .before .before .before .before .before .before .before .before .before .before .before .put-fixed .ensures), c .before .before .before .before .before .before .before .before .put-line .ensures .after, put-long (c .before .before .before .before .before .before .before .before .put-line .ensures), c .before .before .before .put-fixed2 .ensures .after, put-long (c .before .before .before .put-fixed2 .ensures)),
-)
+put-rows-requires c κs =
+    let s = c .before .before .before .before .before .before .before .before .before .before .before .before .before .before .before .before .before .before in
+    let p = c .before .before .before .before .before .before .before .before .before .before .before .before .put-fixed .ensures in
+    let q = c .before .before .before .before .before .before .before .before .put-line .ensures in
+    let r = c .before .before .before .put-fixed2 .ensures in
+    (s .pre .0, omega (arith, s .pre .1, sheet-long (G s), put-long p, put-long q, put-long r))
 
 same-length : tie.Need-same-length
 same-length c = search needs
 
 returns : tie.Need-returns
 returns c =
-    put-lines (G (c .before .before .before .before .before .before .before .before .before .before .before .before .before .before .before .before .before .before .before .before .before)) (c .before .before .before .before .before .before .before .before .before .before .before .before .before .before .before .put-fixed .ensures) (c .before .before .before .before .before .before .before .before .before .before .before .put-line .ensures) (c .before .before .before .before .before .before .put-fixed2 .ensures) (c .before .before .put-rows .ensures)
+    let p = c .before .before .before .before .before .before .before .before .before .before .before .before .before .before .before .put-fixed .ensures in
+    let q = c .before .before .before .before .before .before .before .before .before .before .before .put-line .ensures in
+    let r = c .before .before .before .before .before .before .put-fixed2 .ensures in
+    put-lines (G (c .before .before .before .before .before .before .before .before .before .before .before .before .before .before .before .before .before .before .before .before .before)) p q r (c .before .before .put-rows .ensures)
 
 pub put-sheet-spec : {M : Type 1} → statement M
 put-sheet-spec =

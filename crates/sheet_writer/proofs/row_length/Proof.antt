@@ -33,7 +33,8 @@ start-requires-2 c κs = search needs
 
 loop-holds : tie.Need-loop-holds Inv-loop μ-loop
 loop-holds c =
-    let r = row-read (c .before .before .before .before .pre .0) (c .before .before .before .before .pre .1) (c .before .start .ensures .0) (c .start2 .ensures .0) in
+    let h = c .before .before .before .before .pre in
+    let r = row-read (h .0) (h .1) (c .before .start .ensures .0) (c .start2 .ensures .0) in
     (r, omega arith, summed-none)
 
 add-loop : tie.Need-add-loop Inv-loop μ-loop
@@ -46,7 +47,10 @@ column-requires : tie.Need-column-requires Inv-loop μ-loop
 column-requires c κs = search needs
 
 line-length-requires : tie.Need-line-length-requires Inv-loop μ-loop
-line-length-requires c κs = (omega (arith, c .before .before .before .before .before .before .before .pre .0 .checks .1), column-small (c .before .before .before .before .before .before .before .pre .0) (c .before .before .loop .k) (c .before .before .loop .inv .0) (omega arith) (c .column .ensures .0))
+line-length-requires c κs =
+    let h = c .before .before .before .before .before .before .before .pre .0 in
+    let o = c .before .before .loop in
+    (omega (arith, h .checks .1), column-small h (o .k) (o .inv .0) (omega arith) (c .column .ensures .0))
 
 add-total : tie.Need-add-total Inv-loop μ-loop
 add-total c = search needs
@@ -58,14 +62,17 @@ loop-less : tie.Need-loop-less Inv-loop μ-loop
 loop-less c = search needs
 
 loop-again : tie.Need-loop-again Inv-loop μ-loop
-loop-again c = (
-  c .before .before .before .loop .inv .0,
-  search needs,
-  summed-more (c .before .before .before .loop .inv .2) (c .line-length .ensures .0 ∙ ap length (row-line (c .before .before .before .loop .k) (c .before .before .before .loop .inv .0) (c .before .column .ensures .0))) (c .line-length .ensures .1),
-)
+loop-again c =
+    let o = c .before .before .before .loop in
+    let l = c .line-length .ensures in
+    let e = row-line (o .k) (o .inv .0) (c .before .column .ensures .0) in
+    (o .inv .0, search needs, summed-more (o .inv .2) (l .0 ∙ ap length e) (l .1))
 
 returns : tie.Need-returns Inv-loop μ-loop
-returns c = (summed-all (c .before .loop .inv .2) (omega arith) ∙ ap length (sym (row-lines (G (c .before .before .before .before .before .before)) (c .before .before .before .before .before .before .args .i))), omega arith)
+returns c =
+    let s = c .before .before .before .before .before .before in
+    let o = c .before .loop in
+    (summed-all (o .inv .2) (omega arith) ∙ ap length (sym (row-lines (G s) (s .args .i))), omega arith)
 
 pub row-length-spec : {M : Type 1} → statement M
 row-length-spec =

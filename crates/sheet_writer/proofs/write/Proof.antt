@@ -32,14 +32,18 @@ enum-told : tie.Need-enum-told
 enum-told c = search needs
 
 put-sheet-requires : tie.Need-put-sheet-requires
-put-sheet-requires c κs = write-admitted (G (c .before .before .before .before .before .before .before)) (length (c .before .before .before .before .before .before .before .args .text .now)) (judged (c .before))
+put-sheet-requires c κs =
+    let s = c .before .before .before .before .before .before .before in
+    write-admitted (G s) (length (s .args .text .now)) (judged (c .before))
 
 same-length : tie.Need-same-length
 same-length c = search needs
 
 returns-2 : tie.Need-returns-2
 returns-2 c =
-    all-written (judged (c .before .before .before .before)) (write-admitted (G (c .before .before .before .before .before .before .before .before .before .before)) (length (c .before .before .before .before .before .before .before .before .before .before .args .text .now)) (judged (c .before .before .before .before)) .1) (c .before .before .put-sheet .ensures)
+    let s = c .before .before .before .before .before .before .before .before .before .before in
+    let h = judged (c .before .before .before .before) in
+    all-written h (write-admitted (G s) (length (s .args .text .now)) h .1) (c .before .before .put-sheet .ensures)
 
 pub write-spec : {M : Type 1} → statement M
 write-spec =
