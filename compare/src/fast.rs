@@ -1,0 +1,83 @@
+//! The same calls written for speed: the baseline of the benchmark, and the stand-in for
+//! the library where none is linked.
+
+pub mod decode;
+pub mod graph;
+pub mod sheet;
+
+use crate::interface::{
+    Answer, DecodeInput, Decoded, Decoder, GraphBytes, Lent, LentLengths, Refusal, SheetCounts,
+    u16_list,
+};
+
+pub struct Fast;
+
+fn place<T>(result: Result<T, Refusal>) -> usize {
+    result.map_or_else(|refusal| refusal.place, |_| 0)
+}
+
+impl Decoder for Fast {
+    fn decode(&self, input: &DecodeInput, lent: &mut Lent) -> Answer<Decoded> {
+        let lengths = LentLengths {
+            levels: lent.levels.len(),
+            variable_messages: lent.variable_messages.len(),
+            check_messages: lent.check_messages.len(),
+            sums: lent.sums.len(),
+            bits: lent.bits.len(),
+        };
+        match decode::prepare(input, &lengths) {
+            Ok(frame) => Answer::Accepted(decode::run(&frame, lent)),
+            Err(refusal) => Answer::Refused(refusal.number),
+        }
+    }
+
+    fn decode_place(&self, input: &DecodeInput, lent: &LentLengths) -> usize {
+        place(decode::prepare(input, lent))
+    }
+
+    fn read_sheet(
+        &self,
+        text: &[u8],
+        starts: &mut [u8],
+        columns: &mut [u8],
+    ) -> Answer<SheetCounts> {
+        match sheet::read(text, starts.len(), columns.len()) {
+            Ok(read) => {
+                copy_list(&read.starts, starts);
+                copy_list(&read.columns, columns);
+                Answer::Accepted(SheetCounts {
+                    n: read.n,
+                    m: read.starts.len() - 1,
+                    entries: read.columns.len(),
+                })
+            }
+            Err(refusal) => Answer::Refused(refusal.number),
+        }
+    }
+
+    fn read_sheet_place(&self, text: &[u8], starts: usize, columns: usize) -> usize {
+        place(sheet::read(text, starts, columns))
+    }
+
+    fn write_sheet(&self, graph: &GraphBytes, text: &mut [u8]) -> Answer<usize> {
+        match sheet::measure(graph, text.len()) {
+            Ok(_) => Answer::Accepted(sheet::write(graph, text)),
+            Err(refusal) => Answer::Refused(refusal.number),
+        }
+    }
+
+    fn write_sheet_place(&self, graph: &GraphBytes, text: usize) -> usize {
+        place(sheet::measure(graph, text))
+    }
+}
+
+fn copy_list(list: &[u16], bytes: &mut [u8]) {
+    for (element, out) in list.iter().zip(bytes.chunks_exact_mut(2)) {
+        out.copy_from_slice(&element.to_le_bytes());
+    }
+}
+
+/// The lists of a graph, for those who go through them more than once.
+fn lists(graph: &GraphBytes) -> (Vec<u16>, Vec<u16>) {
+    (u16_list(graph.starts), u16_list(graph.columns))
+}

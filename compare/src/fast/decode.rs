@@ -1,0 +1,226 @@
+//! A flooding decoder: the two least magnitudes of each row, sums scattered along the
+//! rows, outgoing messages from a table that is made once from nine magnitudes.
+
+use super::{graph, lists};
+use crate::interface::{
+    DecodeInput, Decoded, Lent, LentLengths, Refusal, Settings, Verdict, f32_list,
+};
+
+const MINUS: u8 = 0x80;
+
+/// No sum is larger than 2 × 7 + 2 + 32 × 15 = 496.
+const MIDDLE: i32 = 512;
+
+/// A message's contribution in halves: its odd size with its sign.
+const HALVES: [i32; 256] = {
+    let mut halves = [0; 256];
+    let mut byte = 0;
+    while byte < 256 {
+        let size = 2 * (byte as i32 & 0x7f) + 1;
+        halves[byte] = if byte < 128 { size } else { -size };
+        byte += 1;
+    }
+    halves
+};
+
+/// A frame that nothing is wrong with.
+pub struct Frame {
+    starts: Vec<u16>,
+    columns: Vec<u16>,
+    degrees: Vec<u16>,
+    values: Vec<f32>,
+    factor: f32,
+    nch: u8,
+    nq: u8,
+    outgoing: [u8; 1024],
+    limit: usize,
+}
+
+pub fn prepare(input: &DecodeInput, lent: &LentLengths) -> Result<Frame, Refusal> {
+    let refuse = |number, place| Err(Refusal { number, place });
+    let (starts, columns) = lists(&input.graph);
+    let n = input.graph.n;
+    let degrees = graph::check(n, &starts, &columns)?;
+    let values = f32_list(input.values);
+    if values.len() != n {
+        return refuse(13, values.len());
+    }
+    let settings = &input.settings;
+    let largest = match (settings.channel, settings.message) {
+        (3, 2) => (3, 1),
+        (3, 3) => (3, 3),
+        (4, 3) => (7, 3),
+        (4, 4) => (7, 7),
+        _ => return refuse(8, 0),
+    };
+    if settings.phi_s.max(settings.phi_a).max(settings.phi_0) > 1 || settings.limit > 255 {
+        return refuse(9, 0);
+    }
+    let Some(factor) = factor(settings) else {
+        return refuse(10, 0);
+    };
+    if !(factor > 0.0 && factor <= f32::MAX) {
+        return refuse(11, 0);
+    }
+    if let Some(index) = values.iter().position(|value| !value.is_finite()) {
+        return refuse(12, index);
+    }
+    let entries = columns.len();
+    let long_enough = lent.levels.min(lent.bits).min(lent.sums / 4) >= n
+        && lent.variable_messages.min(lent.check_messages) >= entries;
+    if !long_enough {
+        return refuse(6, 0);
+    }
+    let (nch, nq) = largest;
+    Ok(Frame {
+        starts,
+        columns,
+        degrees,
+        values,
+        factor,
+        nch,
+        nq,
+        outgoing: outgoing_messages(&magnitudes(nq, settings)),
+        limit: settings.limit as usize,
+    })
+}
+
+fn factor(settings: &Settings) -> Option<f32> {
+    let usable = |number: f32| number > 0.0 && number <= f32::MAX;
+    let (gain, variance) = (settings.gain, settings.variance);
+    match settings.kind {
+        0 => usable(gain).then_some(gain),
+        1 => (usable(gain) && usable(variance)).then_some((2.0 * gain) / variance),
+        _ => None,
+    }
+}
+
+/// The outgoing magnitude by F, larger F as 8.
+fn magnitudes(nq: u8, settings: &Settings) -> [u8; 9] {
+    let mut table = [nq; 9];
+    for f in 2..nq {
+        table[f as usize] = f - settings.phi_a as u8;
+    }
+    table[1] = 1 - settings.phi_0 as u8;
+    table[nq as usize] = nq - settings.phi_s as u8;
+    table[0] = 0;
+    table
+}
+
+/// The outgoing message by its sum, which stands at `MIDDLE` + sum.
+fn outgoing_messages(magnitudes: &[u8; 9]) -> [u8; 1024] {
+    std::array::from_fn(|index| {
+        let sum = index as i32 - MIDDLE;
+        let f = (sum.unsigned_abs() as usize / 2).min(8);
+        magnitudes[f] | if sum < 0 { MINUS } else { 0 }
+    })
+}
+
+pub fn run(frame: &Frame, lent: &mut Lent) -> Decoded {
+    let (n, entries) = (frame.values.len(), frame.columns.len());
+    let levels = &mut lent.levels[..n];
+    let variable_messages = &mut lent.variable_messages[..entries];
+    let check_messages = &mut lent.check_messages[..entries];
+    let bits = &mut lent.bits[..n];
+
+    quantise(frame, levels);
+    for (message, &column) in variable_messages.iter_mut().zip(&frame.columns) {
+        let level = levels[usize::from(column)];
+        *message = (level & MINUS) | (level & 0x7f).min(frame.nq);
+    }
+    for (bit, &level) in bits.iter_mut().zip(levels.iter()) {
+        *bit = level >> 7;
+    }
+    check_messages.fill(0);
+    let own = channel_halves(levels, &frame.degrees);
+    let mut sums = vec![0; n];
+
+    let mut iterations = 0;
+    while iterations < frame.limit && odd_checks(frame, bits).any(|odd| odd) {
+        if iterations > 0 {
+            send_from_variables(frame, &sums, check_messages, variable_messages);
+        }
+        iterations += 1;
+        sums.copy_from_slice(&own);
+        send_from_checks(frame, variable_messages, check_messages, &mut sums);
+        for ((bit, &sum), &level) in bits.iter_mut().zip(&sums).zip(levels.iter()) {
+            *bit = u8::from(sum < 0) | (u8::from(sum == 0) & (level >> 7));
+        }
+    }
+    for (sum, out) in sums.iter().zip(lent.sums.chunks_exact_mut(4)) {
+        out.copy_from_slice(&sum.to_le_bytes());
+    }
+    let unsatisfied = odd_checks(frame, bits).filter(|&odd| odd).count();
+    Decoded {
+        verdict: match unsatisfied {
+            0 => Verdict::Codeword,
+            _ => Verdict::Stopped,
+        },
+        iterations,
+        unsatisfied,
+    }
+}
+
+fn quantise(frame: &Frame, levels: &mut [u8]) {
+    for (level, value) in levels.iter_mut().zip(&frame.values) {
+        let p = frame.factor * value.abs();
+        let mut magnitude = 0;
+        for threshold in 1..=frame.nch {
+            magnitude += u8::from(f32::from(threshold) < p);
+        }
+        *level = magnitude | ((value.to_bits() >> 24) as u8 & MINUS);
+    }
+}
+
+/// The channel level's part of each sum.
+fn channel_halves(levels: &[u8], degrees: &[u16]) -> Vec<i32> {
+    let halves = |(&level, &degree): (&u8, &u16)| {
+        let extra = match degree {
+            2 => 0,
+            _ => 2 - i32::from(degree & 1),
+        };
+        let size = i32::from(level & 0x7f) * 2 + extra;
+        if level & MINUS != 0 { -size } else { size }
+    };
+    levels.iter().zip(degrees).map(halves).collect()
+}
+
+fn rows(frame: &Frame) -> impl Iterator<Item = (usize, usize)> {
+    let pairs = frame.starts.windows(2);
+    pairs.map(|pair| (usize::from(pair[0]), usize::from(pair[1])))
+}
+
+fn odd_checks(frame: &Frame, bits: &[u8]) -> impl Iterator<Item = bool> {
+    rows(frame).map(|(start, end)| {
+        let columns = frame.columns[start..end].iter();
+        let parity = columns.fold(0, |parity, &column| parity ^ bits[usize::from(column)]);
+        parity == 1
+    })
+}
+
+fn send_from_checks(frame: &Frame, from: &[u8], to: &mut [u8], sums: &mut [i32]) {
+    for (start, end) in rows(frame) {
+        let (mut least, mut second, mut signs) = (u8::MAX, u8::MAX, 0);
+        for &message in &from[start..end] {
+            let magnitude = message & 0x7f;
+            second = second.min(magnitude.max(least));
+            least = least.min(magnitude);
+            signs ^= message;
+        }
+        // Where the least is tied the second equals it, so the value names the place.
+        let row = from[start..end].iter().zip(&mut to[start..end]);
+        for ((&own, out), &column) in row.zip(&frame.columns[start..end]) {
+            let magnitude = if own & 0x7f == least { second } else { least };
+            let message = magnitude | ((signs ^ own) & MINUS);
+            *out = message;
+            sums[usize::from(column)] += HALVES[usize::from(message)];
+        }
+    }
+}
+
+fn send_from_variables(frame: &Frame, sums: &[i32], from: &[u8], to: &mut [u8]) {
+    for ((&message, out), &column) in from.iter().zip(to).zip(&frame.columns) {
+        let sum = sums[usize::from(column)] - HALVES[usize::from(message)];
+        *out = frame.outgoing[(MIDDLE + sum) as usize & 1023];
+    }
+}

@@ -1,0 +1,134 @@
+//! The sheet read in one pass over its bytes, and written straight into the lent text.
+
+use super::{graph, lists};
+use crate::interface::{GraphBytes, Refusal};
+
+const TOP: &[u8] = b"variables checks\n";
+const MIDDLE: &[u8] = b"check variable\n";
+const MOST_ENTRIES: usize = 32_768;
+
+pub struct Read {
+    pub n: usize,
+    pub starts: Vec<u16>,
+    pub columns: Vec<u16>,
+}
+
+pub fn read(text: &[u8], starts_lent: usize, columns_lent: usize) -> Result<Read, Refusal> {
+    let refusal = |number, place| Refusal { number, place };
+    let mut rest = text.strip_prefix(TOP).ok_or(refusal(1, 1))?;
+    let (n, m) = take_pair(&mut rest).ok_or(refusal(1, 2))?;
+    if !(2..=8_192).contains(&n) || !(1..=8_192).contains(&m) {
+        return Err(refusal(2, 2));
+    }
+    rest = rest.strip_prefix(MIDDLE).ok_or(refusal(1, 3))?;
+
+    let mut starts = vec![0];
+    let mut columns = Vec::new();
+    let mut above = None;
+    while !rest.is_empty() {
+        let line = 4 + columns.len();
+        if columns.len() == MOST_ENTRIES {
+            return Err(refusal(2, line));
+        }
+        let entry = take_pair(&mut rest).ok_or(refusal(1, line))?;
+        if entry.0 >= m || entry.1 >= n {
+            return Err(refusal(3, line));
+        }
+        if above >= Some(entry) {
+            return Err(refusal(4, line));
+        }
+        above = Some(entry);
+        starts.resize(1 + entry.0 as usize, columns.len() as u16);
+        columns.push(entry.1 as u16);
+    }
+    starts.resize(1 + m as usize, columns.len() as u16);
+    graph::check(n as usize, &starts, &columns)?;
+    if starts_lent / 2 < starts.len() || columns_lent / 2 < columns.len() {
+        return Err(refusal(6, 0));
+    }
+    Ok(Read { n: n as usize, starts, columns })
+}
+
+/// Takes a line of two numbers off the front.
+fn take_pair(rest: &mut &[u8]) -> Option<(u32, u32)> {
+    Some((take_number(rest, b' ')?, take_number(rest, b'\n')?))
+}
+
+/// Takes a number and the byte that ends it. A number past every limit counts as a million.
+fn take_number(rest: &mut &[u8], ending: u8) -> Option<u32> {
+    let mut number = 0;
+    for (index, &byte) in rest.iter().enumerate() {
+        if byte == ending {
+            let leading_zero = index > 1 && rest[0] == b'0';
+            *rest = &rest[index + 1..];
+            return (index > 0 && !leading_zero).then_some(number);
+        }
+        let digit = u32::from(byte.wrapping_sub(b'0'));
+        if digit > 9 {
+            return None;
+        }
+        number = (number * 10 + digit).min(1_000_000);
+    }
+    None
+}
+
+fn digits(number: usize) -> usize {
+    1 + usize::from(number > 9)
+        + usize::from(number > 99)
+        + usize::from(number > 999)
+        + usize::from(number > 9_999)
+}
+
+/// The text's length, where nothing is refused.
+pub fn measure(graph: &GraphBytes, text_lent: usize) -> Result<usize, Refusal> {
+    let (starts, columns) = lists(graph);
+    graph::check(graph.n, &starts, &columns)?;
+    let m = starts.len() - 1;
+    let mut length = TOP.len() + digits(graph.n) + digits(m) + 2 + MIDDLE.len();
+    for (check, pair) in starts.windows(2).enumerate() {
+        length += (digits(check) + 2) * usize::from(pair[1] - pair[0]);
+    }
+    for &column in &columns {
+        length += digits(usize::from(column));
+    }
+    if text_lent < length {
+        return Err(Refusal { number: 6, place: 0 });
+    }
+    Ok(length)
+}
+
+/// Writes a measured graph; gives the text's length.
+pub fn write(graph: &GraphBytes, text: &mut [u8]) -> usize {
+    let (starts, columns) = lists(graph);
+    let mut at = 0;
+    put(text, &mut at, TOP);
+    put_pair(text, &mut at, graph.n, starts.len() - 1);
+    put(text, &mut at, MIDDLE);
+    for (check, pair) in starts.windows(2).enumerate() {
+        for &column in &columns[usize::from(pair[0])..usize::from(pair[1])] {
+            put_pair(text, &mut at, check, usize::from(column));
+        }
+    }
+    at
+}
+
+fn put(text: &mut [u8], at: &mut usize, bytes: &[u8]) {
+    text[*at..*at + bytes.len()].copy_from_slice(bytes);
+    *at += bytes.len();
+}
+
+fn put_pair(text: &mut [u8], at: &mut usize, first: usize, second: usize) {
+    put_number(text, at, first, b' ');
+    put_number(text, at, second, b'\n');
+}
+
+fn put_number(text: &mut [u8], at: &mut usize, number: usize, ending: u8) {
+    let end = *at + digits(number);
+    let mut left = number;
+    for out in text[*at..end].iter_mut().rev() {
+        *out = b'0' + (left % 10) as u8;
+        left /= 10;
+    }
+    text[end] = ending;
+    *at = end + 1;
+}

@@ -1,0 +1,312 @@
+//! Decoders with one fault each. The harness must find every one, and none where there is
+//! none.
+
+mod found;
+
+use crate::harness::check::level_bytes;
+use crate::interface::{
+    Answer, DecodeInput, Decoded, Decoder, GraphBytes, Lent, LentLengths, SheetCounts, Verdict,
+    f32_list, i32_bytes, u16_bytes, u16_list,
+};
+use crate::paper::graph::odd_checks;
+use crate::paper::rules::{self, Offsets};
+use crate::paper::run::{Checked, check_settings};
+use crate::paper::{self, Graph, Level, Outcome, Refusal};
+
+#[derive(Clone, Copy, Debug, PartialEq, Eq)]
+enum Fault {
+    None,
+    // Where decoders of this kind go astray.
+    NegativeZeroAsPlus,
+    RoundedUp,
+    OwnMessageCounted,
+    TieToBit0,
+    Phi0WhereNqIs1,
+    OffsetPastNq,
+    // The reviewer's checklist.
+    AllZeroBits,
+    NoIterations,
+    StoppedBeforeTheLimit,
+    IterationRepeated,
+    CountNotItsOwn,
+    RefusedThroughout,
+    // Others.
+    DegreeOneAsEven,
+    LastStepDoneToo,
+    VarianceDividedLast,
+    VarianceRead,
+    BuffersBeforeValues,
+    LastBadValue,
+    BytePastTheLength,
+    WrittenWhenRefused,
+    CarriageReturnsRead,
+    LastLineFeedOptional,
+    WideNumbersWrapped,
+    TextLengthOneMore,
+}
+
+struct Faulty(Fault);
+
+impl Faulty {
+    fn has(&self, fault: Fault) -> bool {
+        self.0 == fault
+    }
+
+    fn outcome(&self, input: &DecodeInput, lent: &LentLengths) -> Result<Outcome, Refusal> {
+        let (starts, columns) = (u16_list(input.graph.starts), u16_list(input.graph.columns));
+        let graph = Graph { n: input.graph.n, starts: &starts, columns: &columns };
+        let values = f32_list(input.values);
+        let mut settings = input.settings;
+        if self.has(Fault::RefusedThroughout) {
+            settings.channel = 0;
+        }
+        if self.has(Fault::VarianceRead) && settings.kind == 0 && settings.variance.is_nan() {
+            settings.gain = settings.variance;
+        }
+        let refusal = match paper::decode(&graph, &values, &settings, lent) {
+            Ok(_) => return Ok(self.run(&graph, &values, &check_settings(&settings)?, input)),
+            Err(refusal) => refusal,
+        };
+        let needed = LentLengths::needed(graph.n, columns.len());
+        match refusal.number {
+            12 if self.has(Fault::BuffersBeforeValues) && !lent.covers(&needed) => {
+                Err(Refusal { number: 6, place: 0 })
+            }
+            12 if self.has(Fault::LastBadValue) => {
+                let last = values.iter().rposition(|value| !value.is_finite());
+                Err(Refusal { number: 12, place: last.unwrap_or(0) })
+            }
+            _ => Err(refusal),
+        }
+    }
+
+    fn quantise(&self, settings: &Checked, input: &DecodeInput, value: f32) -> Level {
+        let mut level = paper::quantise(settings.factor, settings.nch, value);
+        if self.has(Fault::VarianceDividedLast) && input.settings.kind == 1 {
+            let p = 2.0 * input.settings.gain * value.abs() / input.settings.variance;
+            level.magnitude = paper::quantise(1.0, settings.nch, p).magnitude;
+        }
+        if self.has(Fault::NegativeZeroAsPlus) {
+            level.minus = value < 0.0;
+        }
+        if self.has(Fault::RoundedUp) {
+            level.magnitude =
+                ((settings.factor * value.abs()) as u32).min(settings.nch.into()) as u8;
+        }
+        level
+    }
+
+    fn check_message(&self, incoming: &[Level], recipient: usize) -> Level {
+        let mut message = rules::check_message(incoming, recipient);
+        if self.has(Fault::OwnMessageCounted) {
+            message.magnitude = message.magnitude.min(incoming[recipient].magnitude);
+        }
+        message
+    }
+
+    fn variable_message(&self, u: i32, nq: u8, offsets: Offsets) -> Level {
+        let mut message = rules::variable_message(u, nq, offsets);
+        let f = (u.abs() - 1) / 2;
+        if self.has(Fault::Phi0WhereNqIs1) && nq == 1 && f == 1 {
+            message.magnitude = 1 - offsets.phi_0;
+        }
+        if self.has(Fault::OffsetPastNq) && f == i32::from(nq) + 1 {
+            message.magnitude = nq - offsets.phi_s;
+        }
+        message
+    }
+
+    fn posterior_sum(&self, channel: Level, incoming: &[Level]) -> i32 {
+        let sum = rules::posterior_sum(channel, incoming);
+        match self.has(Fault::DegreeOneAsEven) && incoming.len() == 1 {
+            true => sum + if channel.minus { -1 } else { 1 },
+            false => sum,
+        }
+    }
+
+    fn run(
+        &self,
+        graph: &Graph,
+        values: &[f32],
+        settings: &Checked,
+        input: &DecodeInput,
+    ) -> Outcome {
+        let levels: Vec<Level> =
+            values.iter().map(|&value| self.quantise(settings, input, value)).collect();
+        let sent = |&variable: &u16| rules::first_message(levels[variable as usize], settings.nq);
+        let mut outcome = Outcome {
+            verdict: Verdict::Stopped,
+            iterations: 0,
+            unsatisfied: 0,
+            variable_messages: graph.columns.iter().map(sent).collect(),
+            check_messages: vec![Level { minus: false, magnitude: 0 }; graph.entries()],
+            sums: vec![0; graph.n],
+            bits: levels.iter().map(|level| u8::from(level.minus)).collect(),
+            levels,
+        };
+        let early = u8::from(self.has(Fault::StoppedBeforeTheLimit));
+        let limit = match self.has(Fault::NoIterations) {
+            true => 0,
+            false => settings.limit.saturating_sub(early.into()),
+        };
+        let entries = graph.entries_of_variables();
+        loop {
+            outcome.unsatisfied = odd_checks(graph, &outcome.bits);
+            let stops = outcome.unsatisfied == 0 || outcome.iterations == limit;
+            if outcome.iterations > 0 && (!stops || self.has(Fault::LastStepDoneToo)) {
+                self.send_from_variables(&entries, settings, &mut outcome);
+            }
+            if stops {
+                break;
+            }
+            outcome.iterations += 1;
+            if outcome.iterations < 2 || !self.has(Fault::IterationRepeated) {
+                self.iterate(graph, &entries, &mut outcome);
+            }
+        }
+        if outcome.unsatisfied == 0 {
+            outcome.verdict = Verdict::Codeword;
+        }
+        if self.has(Fault::AllZeroBits) {
+            outcome.bits.fill(0);
+        }
+        if self.has(Fault::CountNotItsOwn) && outcome.iterations == settings.limit {
+            outcome.unsatisfied += usize::from(outcome.unsatisfied > 0);
+        }
+        outcome
+    }
+
+    fn send_from_variables(&self, entries: &[Vec<usize>], settings: &Checked, to: &mut Outcome) {
+        for (variable, entries) in entries.iter().enumerate() {
+            let incoming: Vec<Level> = entries.iter().map(|&e| to.check_messages[e]).collect();
+            for (recipient, &entry) in entries.iter().enumerate() {
+                let u = rules::outgoing_sum(to.levels[variable], &incoming, recipient);
+                to.variable_messages[entry] =
+                    self.variable_message(u, settings.nq, settings.offsets);
+            }
+        }
+    }
+
+    fn iterate(&self, graph: &Graph, entries: &[Vec<usize>], to: &mut Outcome) {
+        for row in graph.rows() {
+            for (recipient, entry) in row.clone().enumerate() {
+                let incoming = &to.variable_messages[row.clone()];
+                to.check_messages[entry] = self.check_message(incoming, recipient);
+            }
+        }
+        for (variable, entries) in entries.iter().enumerate() {
+            let incoming: Vec<Level> = entries.iter().map(|&e| to.check_messages[e]).collect();
+            let channel = to.levels[variable];
+            to.sums[variable] = self.posterior_sum(channel, &incoming);
+            to.bits[variable] = match self.has(Fault::TieToBit0) {
+                true => u8::from(to.sums[variable] < 0),
+                false => rules::bit(to.sums[variable], channel),
+            };
+        }
+    }
+
+    /// The text as a careless reader would take it.
+    fn careless(&self, text: &[u8]) -> Vec<u8> {
+        let mut text = text.to_vec();
+        if self.has(Fault::CarriageReturnsRead) {
+            text.retain(|&byte| byte != b'\r');
+        }
+        if self.has(Fault::LastLineFeedOptional) && text.last().is_some_and(u8::is_ascii_digit) {
+            text.push(b'\n');
+        }
+        if self.has(Fault::WideNumbersWrapped) {
+            let wrapped = |word: &str| match word.parse::<u64>() {
+                Ok(number) if number > 65_535 => (number % 65_536).to_string(),
+                _ => word.to_string(),
+            };
+            let text_words = String::from_utf8_lossy(&text).into_owned();
+            let line = |line: &str| line.split(' ').map(wrapped).collect::<Vec<_>>().join(" ");
+            text = text_words.split('\n').map(line).collect::<Vec<_>>().join("\n").into_bytes();
+        }
+        text
+    }
+}
+
+impl Decoder for Faulty {
+    fn decode(&self, input: &DecodeInput, lent: &mut Lent) -> Answer<Decoded> {
+        let buffers: [&mut [u8]; 5] = [
+            &mut *lent.levels,
+            &mut *lent.variable_messages,
+            &mut *lent.check_messages,
+            &mut *lent.sums,
+            &mut *lent.bits,
+        ];
+        let lengths = LentLengths::from_array(buffers.each_ref().map(|buffer| buffer.len()));
+        let outcome = match self.outcome(input, &lengths) {
+            Ok(outcome) => outcome,
+            Err(refusal) => {
+                if self.has(Fault::WrittenWhenRefused) && refusal.number == 12 {
+                    lent.levels.fill(0);
+                }
+                return Answer::Refused(refusal.number);
+            }
+        };
+        let lists = [
+            level_bytes(&outcome.levels),
+            level_bytes(&outcome.variable_messages),
+            level_bytes(&outcome.check_messages),
+            i32_bytes(&outcome.sums),
+            outcome.bits,
+        ];
+        for (buffer, list) in buffers.into_iter().zip(lists) {
+            buffer[..list.len()].copy_from_slice(&list);
+            if let (true, Some(past)) =
+                (self.has(Fault::BytePastTheLength), buffer.get_mut(list.len()))
+            {
+                *past = 0;
+            }
+        }
+        let Outcome { verdict, iterations, unsatisfied, .. } = outcome;
+        Answer::Accepted(Decoded { verdict, iterations, unsatisfied })
+    }
+
+    fn decode_place(&self, input: &DecodeInput, lent: &LentLengths) -> usize {
+        self.outcome(input, lent).err().map_or(0, |refusal| refusal.place)
+    }
+
+    fn read_sheet(
+        &self,
+        text: &[u8],
+        starts: &mut [u8],
+        columns: &mut [u8],
+    ) -> Answer<SheetCounts> {
+        match paper::read_sheet(&self.careless(text), starts.len(), columns.len()) {
+            Ok(sheet) => {
+                starts[..2 * sheet.starts.len()].copy_from_slice(&u16_bytes(&sheet.starts));
+                columns[..2 * sheet.columns.len()].copy_from_slice(&u16_bytes(&sheet.columns));
+                let (m, entries) = (sheet.starts.len() - 1, sheet.columns.len());
+                Answer::Accepted(SheetCounts { n: sheet.n, m, entries })
+            }
+            Err(refusal) => Answer::Refused(refusal.number),
+        }
+    }
+
+    fn read_sheet_place(&self, text: &[u8], starts: usize, columns: usize) -> usize {
+        let read = paper::read_sheet(&self.careless(text), starts, columns);
+        read.err().map_or(0, |refusal| refusal.place)
+    }
+
+    fn write_sheet(&self, graph: &GraphBytes, text: &mut [u8]) -> Answer<usize> {
+        let (starts, columns) = (u16_list(graph.starts), u16_list(graph.columns));
+        let lists = Graph { n: graph.n, starts: &starts, columns: &columns };
+        match paper::write_sheet(&lists, text.len()) {
+            Ok(written) => {
+                text[..written.len()].copy_from_slice(&written);
+                let more = usize::from(self.has(Fault::TextLengthOneMore) && graph.n == 7);
+                Answer::Accepted(written.len() + more)
+            }
+            Err(refusal) => Answer::Refused(refusal.number),
+        }
+    }
+
+    fn write_sheet_place(&self, graph: &GraphBytes, text: usize) -> usize {
+        let (starts, columns) = (u16_list(graph.starts), u16_list(graph.columns));
+        let lists = Graph { n: graph.n, starts: &starts, columns: &columns };
+        paper::write_sheet(&lists, text).err().map_or(0, |refusal| refusal.place)
+    }
+}

@@ -1,0 +1,11 @@
+//! Seeded random inputs: graphs, settings, values, sheets and run texts, good and damaged.
+
+pub mod cases;
+pub mod codewords;
+pub mod damage;
+pub mod graphs;
+pub mod limits;
+pub mod settings;
+pub mod texts;
+
+pub use graphs::Lists;

@@ -1,0 +1,219 @@
+//! Whole inputs of a call, made from the parts.
+
+use super::codewords::Codewords;
+use super::{Lists, damage, graphs, limits, settings, texts};
+use crate::interface::{LentLengths, Settings, f32_bytes, u16_bytes};
+use crate::paper::run::check_settings;
+use crate::random::Random;
+
+/// An input of decode.
+#[derive(Clone, Debug)]
+pub struct DecodeCase {
+    pub n: usize,
+    pub starts: Vec<u8>,
+    pub columns: Vec<u8>,
+    pub values: Vec<u8>,
+    pub settings: Settings,
+    pub lent: LentLengths,
+}
+
+/// A sheet to read and the lengths of the lists lent for it.
+#[derive(Clone, Debug)]
+pub struct ReadCase {
+    pub text: Vec<u8>,
+    pub starts: usize,
+    pub columns: usize,
+}
+
+/// A graph to write and the length of the text lent for it.
+#[derive(Clone, Debug)]
+pub struct WriteCase {
+    pub n: usize,
+    pub starts: Vec<u8>,
+    pub columns: Vec<u8>,
+    pub text: usize,
+}
+
+/// An accepted decode and a word whose ones say which values are negated in its twin.
+#[derive(Clone, Debug)]
+pub struct TwinCase {
+    pub decode: DecodeCase,
+    pub word: Vec<u8>,
+}
+
+#[derive(Clone, Debug)]
+pub enum Case {
+    Decode(DecodeCase),
+    Read(ReadCase),
+    Write(WriteCase),
+    Twin(TwinCase),
+}
+
+/// An input of the program: its file, if there is one, and its standard input.
+pub struct ProgramCase {
+    pub code: Option<Vec<u8>>,
+    pub run_text: Vec<u8>,
+}
+
+/// The inputs at the limits that are in every series.
+pub fn at_limits(random: &mut Random) -> Vec<Case> {
+    let mut cases = Vec::new();
+    for lists in limits::graphs(random) {
+        let values = settings::values(random, lists.n, 1.0);
+        let settings = Settings { limit: 3, ..settings::good(random) };
+        let decode = decode_case(&lists, &values, settings);
+        cases.push(Case::Write(write_case(&lists)));
+        cases.push(Case::Decode(decode));
+    }
+    // 65,536 values too many.
+    let lists = graphs::any(random);
+    let values = vec![1.0; lists.n + 65_536];
+    cases.push(Case::Decode(decode_case(&lists, &values, settings::good(random))));
+    for text in limits::sheets(random) {
+        cases.push(Case::Read(ReadCase { text, starts: 2 * 8_193, columns: 2 * 32_768 }));
+    }
+    let lists = graphs::regular(random, 1_200, 3, 6);
+    cases.push(Case::Twin(twin_of(random, &lists)));
+    cases
+}
+
+pub fn any(random: &mut Random) -> Case {
+    match random.below(20) {
+        0..=10 => Case::Decode(any_decode(random)),
+        11..=13 => Case::Twin(any_twin(random)),
+        14..=17 => Case::Read(any_read(random)),
+        _ => Case::Write(any_write(random)),
+    }
+}
+
+fn decode_case(lists: &Lists, values: &[f32], settings: Settings) -> DecodeCase {
+    DecodeCase {
+        n: lists.n,
+        starts: u16_bytes(&lists.starts),
+        columns: u16_bytes(&lists.columns),
+        values: f32_bytes(values),
+        settings,
+        lent: LentLengths::needed(lists.n, lists.columns.len()),
+    }
+}
+
+fn write_case(lists: &Lists) -> WriteCase {
+    WriteCase {
+        n: lists.n,
+        starts: u16_bytes(&lists.starts),
+        columns: u16_bytes(&lists.columns),
+        text: texts::sheet(lists).len(),
+    }
+}
+
+/// A length that is mostly enough: exact or longer, rarely one byte short or nothing.
+fn lent_length(random: &mut Random, needed: usize) -> usize {
+    match random.below(100) {
+        0 => needed.saturating_sub(1),
+        1 => random.below(needed + 1),
+        2..=40 => needed + random.between(1, 9),
+        _ => needed,
+    }
+}
+
+/// Mostly no damage, else one to three.
+fn damages(random: &mut Random) -> usize {
+    match random.below(10) {
+        0 => random.between(2, 3),
+        1 => 1,
+        _ => 0,
+    }
+}
+
+fn any_decode(random: &mut Random) -> DecodeCase {
+    let large = random.one_in(2_000);
+    let mut lists = if large { graphs::large(random) } else { graphs::any(random) };
+    let mut settings = settings::good(random);
+    if large {
+        settings.limit = settings.limit.min(10);
+    }
+    if random.one_in(5) {
+        (0..random.between(1, 2)).for_each(|_| settings::damage(random, &mut settings));
+    }
+    let factor = check_settings(&settings).map_or(1.0, |checked| checked.factor);
+    let mut values = settings::values(random, lists.n, factor);
+    if random.one_in(16) {
+        settings::spoil_values(random, &mut values);
+    }
+    let lent = LentLengths::needed(lists.n, lists.columns.len());
+    let lent = LentLengths::from_array(lent.as_array().map(|needed| lent_length(random, needed)));
+    (0..damages(random)).for_each(|_| damage::damage(random, &mut lists));
+    let mut case = decode_case(&lists, &values, settings);
+    case.starts = damage::ragged(random, case.starts);
+    case.columns = damage::ragged(random, case.columns);
+    case.values = damage::ragged(random, case.values);
+    DecodeCase { lent, ..case }
+}
+
+fn any_write(random: &mut Random) -> WriteCase {
+    let mut lists = graphs::any(random);
+    let text = texts::sheet(&lists).len();
+    (0..damages(random)).for_each(|_| damage::damage(random, &mut lists));
+    let starts = damage::ragged(random, u16_bytes(&lists.starts));
+    let columns = damage::ragged(random, u16_bytes(&lists.columns));
+    WriteCase { n: lists.n, starts, columns, text: lent_length(random, text) }
+}
+
+fn any_read(random: &mut Random) -> ReadCase {
+    let large = random.one_in(1_000);
+    let lists = if large { graphs::large(random) } else { graphs::any(random) };
+    let mut text = texts::sheet(&lists);
+    if random.one_in(2) {
+        (0..random.between(1, 2)).for_each(|_| texts::damage(random, &mut text));
+    }
+    ReadCase {
+        text,
+        starts: lent_length(random, 2 * lists.starts.len()),
+        columns: lent_length(random, 2 * lists.columns.len()),
+    }
+}
+
+fn any_twin(random: &mut Random) -> TwinCase {
+    let lists = graphs::any(random);
+    let mut case = twin_of(random, &lists);
+    if random.one_in(3) {
+        let flipped = random.below(lists.n);
+        case.word[flipped] ^= 1;
+    }
+    case
+}
+
+/// A decode that is accepted, and a codeword.
+fn twin_of(random: &mut Random, lists: &Lists) -> TwinCase {
+    let settings = settings::good(random);
+    let factor = check_settings(&settings).map_or(1.0, |checked| checked.factor);
+    let values = settings::values(random, lists.n, factor);
+    let word = Codewords::new(lists).random(random);
+    TwinCase { decode: decode_case(lists, &values, settings), word }
+}
+
+/// The program's inputs at its limits.
+pub fn programs_at_limits() -> Vec<ProgramCase> {
+    let case = |(code, run_text)| ProgramCase { code: Some(code), run_text };
+    limits::programs().into_iter().map(case).collect()
+}
+
+pub fn any_program(random: &mut Random) -> ProgramCase {
+    let lists = graphs::any(random);
+    let mut code = texts::sheet(&lists);
+    if random.one_in(5) {
+        (0..random.between(1, 2)).for_each(|_| texts::damage(random, &mut code));
+    }
+    let settings = texts::run_settings(random);
+    let factor = check_settings(&settings).map_or(1.0, |checked| checked.factor);
+    let mut values = settings::values(random, lists.n, factor);
+    if random.one_in(10) {
+        settings::spoil_values(random, &mut values);
+    }
+    let mut run_text = texts::run_text(&settings, &values);
+    if random.one_in(3) {
+        (0..random.between(1, 2)).for_each(|_| texts::damage(random, &mut run_text));
+    }
+    let code = (!random.one_in(50)).then_some(code);
+    ProgramCase { code, run_text }
+}

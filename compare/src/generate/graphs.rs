@@ -1,0 +1,120 @@
+//! Admitted graphs.
+
+use crate::paper::Graph;
+use crate::random::Random;
+
+/// A graph that owns its lists. Nothing says that it is admitted.
+#[derive(Clone, Debug, PartialEq, Eq)]
+pub struct Lists {
+    pub n: usize,
+    pub starts: Vec<u16>,
+    pub columns: Vec<u16>,
+}
+
+impl Lists {
+    pub fn from_rows(n: usize, rows: &[Vec<u16>]) -> Lists {
+        let mut lists = Lists { n, starts: vec![0], columns: Vec::new() };
+        for row in rows {
+            lists.columns.extend_from_slice(row);
+            lists.starts.push(lists.columns.len() as u16);
+        }
+        lists
+    }
+
+    pub fn graph(&self) -> Graph<'_> {
+        Graph { n: self.n, starts: &self.starts, columns: &self.columns }
+    }
+
+    /// The rows, for starts that are in order.
+    pub fn rows(&self) -> Vec<Vec<u16>> {
+        self.graph().rows().map(|row| self.columns[row].to_vec()).collect()
+    }
+}
+
+/// Mostly small graphs, now and then one of some hundred variables.
+pub fn any(random: &mut Random) -> Lists {
+    let (variables, checks, most) = match random.below(12) {
+        0 => (2, random.between(1, 32), 2),
+        1 => (random.between(2, 5), random.between(1, 3), 3),
+        2 => (random.between(50, 400), random.between(10, 200), 6),
+        3 => (random.between(60, 90), random.between(1, 12), 64),
+        4 => (random.between(3, 8), random.between(16, 60), 6),
+        _ => (random.between(3, 24), random.between(1, 14), random.between(2, 7)),
+    };
+    irregular(random, variables, checks, most)
+}
+
+/// Thousands of entries, by one of a few shapes near the limits.
+pub fn large(random: &mut Random) -> Lists {
+    match random.below(5) {
+        0 => regular(random, 8_192, 4, 4),
+        1 => regular(random, 1_024, 32, 64),
+        2 => regular(random, 8_190, 3, 6),
+        3 => irregular(random, 4_000, 1_500, 20),
+        _ => irregular(random, 2_000, 900, 64),
+    }
+}
+
+/// Up to `checks` rows of up to `most` entries. Variables that no row took are put into
+/// one where there is room, or left out of the graph.
+pub fn irregular(random: &mut Random, variables: usize, checks: usize, most: usize) -> Lists {
+    let mut degrees = vec![0; variables];
+    let mut rows: Vec<Vec<u16>> = Vec::new();
+    for _ in 0..checks {
+        let mut open: Vec<usize> = (0..variables).filter(|&v| degrees[v] < 32).collect();
+        if open.len() < 2 {
+            break;
+        }
+        random.shuffle(&mut open);
+        open.truncate(random.between(2, most));
+        open.iter().for_each(|&variable| degrees[variable] += 1);
+        rows.push(open.into_iter().map(|variable| variable as u16).collect());
+    }
+    for variable in (0..variables).filter(|&variable| degrees[variable] == 0) {
+        let row = random.below(rows.len());
+        if rows[row].len() < 64 && !random.one_in(4) {
+            rows[row].push(variable as u16);
+        }
+    }
+    rows.iter_mut().for_each(|row| row.sort_unstable());
+    without_idle_variables(&Lists::from_rows(variables, &rows)).0
+}
+
+/// The graph numbered anew without the variables of degree 0, and the old number of each
+/// variable that stays.
+pub fn without_idle_variables(lists: &Lists) -> (Lists, Vec<usize>) {
+    let mut used = vec![false; lists.n];
+    lists.columns.iter().for_each(|&variable| used[variable as usize] = true);
+    let kept: Vec<usize> = (0..lists.n).filter(|&variable| used[variable]).collect();
+    let renumbered = |old: &u16| kept.partition_point(|&variable| variable < *old as usize);
+    let columns = lists.columns.iter().map(|old| renumbered(old) as u16).collect();
+    (Lists { n: kept.len(), starts: lists.starts.clone(), columns }, kept)
+}
+
+/// Every variable of one degree and every check of another: shuffled sockets, with
+/// repeats in a row swapped away.
+pub fn regular(
+    random: &mut Random,
+    n: usize,
+    variable_degree: usize,
+    check_degree: usize,
+) -> Lists {
+    let sockets = n * variable_degree;
+    assert_eq!(sockets % check_degree, 0, "the degrees do not fit n");
+    let mut columns: Vec<u16> = (0..sockets).map(|socket| (socket % n) as u16).collect();
+    random.shuffle(&mut columns);
+    loop {
+        columns.chunks_mut(check_degree).for_each(|row| row.sort_unstable());
+        let repeats: Vec<usize> = (1..sockets)
+            .filter(|&entry| entry % check_degree > 0 && columns[entry] == columns[entry - 1])
+            .collect();
+        if repeats.is_empty() {
+            break;
+        }
+        for entry in repeats {
+            columns.swap(entry, random.below(sockets));
+        }
+    }
+    let rows: Vec<Vec<u16>> = columns.chunks(check_degree).map(<[u16]>::to_vec).collect();
+    Lists::from_rows(n, &rows)
+}

@@ -1,0 +1,98 @@
+//! Cases and series in words.
+
+use super::{Failure, Series};
+use crate::generate::cases::{Case, DecodeCase};
+use crate::interface::{f32_list, u16_list};
+use std::fmt::{self, Display, Formatter};
+
+/// A list of at most this many elements is printed whole.
+const SHOWN: usize = 300;
+
+fn listed<T: Display>(list: &[T]) -> String {
+    let shown: Vec<String> = list.iter().take(SHOWN).map(T::to_string).collect();
+    let more = match list.len() > SHOWN {
+        true => format!(" .. ({} in all)", list.len()),
+        false => String::new(),
+    };
+    shown.join(" ") + &more
+}
+
+fn graph(n: usize, starts: &[u8], columns: &[u8]) -> String {
+    format!(
+        "  n {n}\n  starts ({} bytes) {}\n  columns ({} bytes) {}\n",
+        starts.len(),
+        listed(&u16_list(starts)),
+        columns.len(),
+        listed(&u16_list(columns)),
+    )
+}
+
+fn decode(case: &DecodeCase) -> String {
+    let digits = |value: &f32| format!("{:08x}", value.to_bits());
+    let values: Vec<String> = f32_list(&case.values).iter().map(digits).collect();
+    let s = &case.settings;
+    let mut text = graph(case.n, &case.starts, &case.columns);
+    text += &format!("  values ({} bytes) {}\n", case.values.len(), listed(&values));
+    text += &format!("  kind {} gain {} variance {}", s.kind, digits(&s.gain), digits(&s.variance));
+    text += &format!(" channel {} message {}", s.channel, s.message);
+    text += &format!(" offsets {} {} {} limit {}\n", s.phi_s, s.phi_a, s.phi_0, s.limit);
+    text += &format!("  lent bytes {}\n", listed(&case.lent.as_array()));
+    text
+}
+
+/// The whole input, a line for each list.
+pub fn described(case: &Case) -> String {
+    match case {
+        Case::Decode(case) => format!("decode\n{}", decode(case)),
+        Case::Twin(case) => {
+            format!("twin decodes\n{}  word {}\n", decode(&case.decode), listed(&case.word))
+        }
+        Case::Read(case) => format!(
+            "read a sheet\n  text ({} bytes) \"{}\"\n  lent bytes {} {}\n",
+            case.text.len(),
+            case.text[..case.text.len().min(10 * SHOWN)].escape_ascii(),
+            case.starts,
+            case.columns,
+        ),
+        Case::Write(case) => format!(
+            "write a sheet\n{}  lent bytes {}\n",
+            graph(case.n, &case.starts, &case.columns),
+            case.text,
+        ),
+    }
+}
+
+impl Display for Failure {
+    fn fmt(&self, out: &mut Formatter) -> fmt::Result {
+        writeln!(out, "input {} fails; shrunk: {}", self.input, described(&self.case).trim_end())?;
+        write!(out, "  {}", self.message)
+    }
+}
+
+/// The tally by call, then the accepted decodes by iteration count.
+impl Display for Series {
+    fn fmt(&self, out: &mut Formatter) -> fmt::Result {
+        let mut last = "";
+        for (&(call, refusal), count) in &self.tally {
+            match (last == call, last.is_empty()) {
+                (true, _) => write!(out, ", ")?,
+                (false, true) => write!(out, "{call}: ")?,
+                (false, false) => write!(out, "\n{call}: ")?,
+            }
+            match refusal {
+                0 => write!(out, "accepted {count}")?,
+                _ => write!(out, "refused {refusal}: {count}")?,
+            }
+            last = call;
+        }
+        if self.iterations.is_empty() {
+            return Ok(());
+        }
+        write!(out, "\niterations:")?;
+        for (low, high) in [(0, 0), (1, 1), (2, 5), (6, 20), (21, 254), (255, 255)] {
+            let count: u64 = self.iterations.range(low..=high).map(|(_, count)| count).sum();
+            write!(out, " {low}-{high}: {count}")?;
+        }
+        Ok(())
+    }
+}

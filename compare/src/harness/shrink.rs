@@ -1,0 +1,288 @@
+//! A failing input made smaller for as long as it still fails.
+
+use crate::generate::Lists;
+use crate::generate::cases::{Case, DecodeCase, WriteCase};
+use crate::generate::graphs::without_idle_variables;
+use crate::interface::{LentLengths, Settings, f32_bytes, f32_list, u16_bytes, u16_list};
+use std::ops::Range;
+use std::time::{Duration, Instant};
+
+/// Shrinking ends after this time with what it has.
+pub const LONGEST: Duration = Duration::from_secs(20);
+
+/// What an input has many of. A cut takes some of them out, or makes them plain.
+#[derive(Clone, Copy)]
+enum Dimension {
+    Settings,
+    Checks,
+    Variables,
+    Starts,
+    Columns,
+    Values,
+    Buffers,
+    Lines,
+    Bytes,
+}
+
+const DIMENSIONS: [Dimension; 9] = [
+    Dimension::Settings,
+    Dimension::Checks,
+    Dimension::Variables,
+    Dimension::Starts,
+    Dimension::Columns,
+    Dimension::Values,
+    Dimension::Buffers,
+    Dimension::Lines,
+    Dimension::Bytes,
+];
+
+/// Cuts in every dimension, large ones first, until no cut leaves a failing input.
+pub fn shrink(mut case: Case, fails: impl Fn(&Case) -> bool) -> Case {
+    let begun = Instant::now();
+    let still_fails = |candidate: &Case| begun.elapsed() < LONGEST && fails(candidate);
+    let mut changed = true;
+    while changed {
+        changed = false;
+        for dimension in DIMENSIONS {
+            changed |= sweep(&mut case, dimension, &still_fails);
+        }
+    }
+    case
+}
+
+fn sweep(case: &mut Case, dimension: Dimension, fails: &impl Fn(&Case) -> bool) -> bool {
+    let mut changed = false;
+    let mut size = extent(case, dimension).div_ceil(2);
+    while size > 0 {
+        let mut start = 0;
+        while start < extent(case, dimension) {
+            let end = (start + size).min(extent(case, dimension));
+            match cut(case, dimension, start..end).filter(fails) {
+                Some(smaller) => {
+                    *case = smaller;
+                    changed = true;
+                }
+                None => start = end,
+            }
+        }
+        size /= 2;
+    }
+    changed
+}
+
+/// The same for a list alone.
+pub fn cut_down<T: Clone>(mut list: Vec<T>, fails: impl Fn(&[T]) -> bool) -> Vec<T> {
+    let mut size = list.len().div_ceil(2);
+    while size > 0 {
+        let mut start = 0;
+        while start < list.len() {
+            let end = (start + size).min(list.len());
+            let shorter = without(&list, &(start..end));
+            if fails(&shorter) {
+                list = shorter;
+            } else {
+                start = end;
+            }
+        }
+        size /= 2;
+    }
+    list
+}
+
+fn extent(case: &Case, dimension: Dimension) -> usize {
+    let lists = lists_of(case);
+    match dimension {
+        Dimension::Lines => lines_of(case).len(),
+        Dimension::Bytes => text_of(case).len(),
+        Dimension::Settings => plainer_settings(case).len(),
+        Dimension::Values => values_of(case).len(),
+        Dimension::Buffers => 1,
+        Dimension::Starts => lists.map_or(0, |lists| lists.starts.len()),
+        Dimension::Columns => lists.map_or(0, |lists| lists.columns.len()),
+        Dimension::Checks => lists.filter(has_rows).map_or(0, |lists| lists.starts.len() - 1),
+        Dimension::Variables => lists.filter(has_rows).map_or(0, |lists| lists.n),
+    }
+}
+
+/// The case with that part cut, unless this changes nothing.
+fn cut(case: &Case, dimension: Dimension, part: Range<usize>) -> Option<Case> {
+    match dimension {
+        Dimension::Lines => Some(with_text(case, without(&lines_of(case), &part).concat())),
+        Dimension::Bytes => Some(with_text(case, without(text_of(case), &part))),
+        Dimension::Settings => Some(with_settings(case, plainer_settings(case)[part.start])),
+        Dimension::Values => with_plainer_values(case, part),
+        Dimension::Buffers => with_exact_buffers(case),
+        Dimension::Starts => {
+            let lists = lists_of(case)?;
+            let starts = without(&lists.starts, &part);
+            Some(on_lists(case, &Lists { starts, ..lists }, None))
+        }
+        Dimension::Columns => {
+            let lists = lists_of(case)?;
+            let columns = without(&lists.columns, &part);
+            Some(on_lists(case, &Lists { columns, ..lists }, None))
+        }
+        Dimension::Checks => {
+            let lists = lists_of(case)?;
+            let rows = without(&lists.rows(), &part);
+            let (smaller, kept) = without_idle_variables(&Lists::from_rows(lists.n, &rows));
+            Some(on_lists(case, &smaller, Some(&kept)))
+        }
+        Dimension::Variables => {
+            let lists = lists_of(case)?;
+            let mut rows = lists.rows();
+            rows.iter_mut().for_each(|row| row.retain(|&v| !part.contains(&usize::from(v))));
+            let (smaller, kept) = without_idle_variables(&Lists::from_rows(lists.n, &rows));
+            (smaller.n < lists.n).then(|| on_lists(case, &smaller, Some(&kept)))
+        }
+    }
+}
+
+fn without<T: Clone>(list: &[T], part: &Range<usize>) -> Vec<T> {
+    [&list[..part.start], &list[part.end..]].concat()
+}
+
+fn decode_of(case: &Case) -> Option<&DecodeCase> {
+    match case {
+        Case::Decode(case) => Some(case),
+        Case::Twin(case) => Some(&case.decode),
+        Case::Read(_) | Case::Write(_) => None,
+    }
+}
+
+fn with_decode(case: &Case, change: impl Fn(&mut DecodeCase)) -> Case {
+    let mut case = case.clone();
+    match &mut case {
+        Case::Decode(decode) => change(decode),
+        Case::Twin(twin) => change(&mut twin.decode),
+        Case::Read(_) | Case::Write(_) => {}
+    }
+    case
+}
+
+fn text_of(case: &Case) -> &[u8] {
+    match case {
+        Case::Read(case) => &case.text,
+        _ => &[],
+    }
+}
+
+fn lines_of(case: &Case) -> Vec<Vec<u8>> {
+    text_of(case).split_inclusive(|&byte| byte == b'\n').map(<[u8]>::to_vec).collect()
+}
+
+fn with_text(case: &Case, text: Vec<u8>) -> Case {
+    let mut case = case.clone();
+    if let Case::Read(read) = &mut case {
+        read.text = text;
+    }
+    case
+}
+
+fn lists_of(case: &Case) -> Option<Lists> {
+    let (n, starts, columns) = match case {
+        Case::Write(WriteCase { n, starts, columns, .. }) => (*n, starts, columns),
+        _ => decode_of(case).map(|case| (case.n, &case.starts, &case.columns))?,
+    };
+    Some(Lists { n, starts: u16_list(starts), columns: u16_list(columns) })
+}
+
+/// Starts in order and columns in range, so that rows can be cut out.
+fn has_rows(lists: &Lists) -> bool {
+    let starts = &lists.starts;
+    lists.n <= 1 << 16
+        && starts.first() == Some(&0)
+        && starts.is_sorted()
+        && starts.last().map(|&last| usize::from(last)) == Some(lists.columns.len())
+        && lists.columns.iter().all(|&column| usize::from(column) < lists.n)
+}
+
+/// The case on other lists, with the values and word of the variables that were kept, and
+/// decode's buffers as much too long or short as before.
+fn on_lists(case: &Case, lists: &Lists, kept: Option<&[usize]>) -> Case {
+    let (starts, columns) = (u16_bytes(&lists.starts), u16_bytes(&lists.columns));
+    let mut case = with_decode(case, |decode| {
+        let (before, after) = (needed(decode), LentLengths::needed(lists.n, columns.len() / 2));
+        let mut lent = decode.lent.as_array();
+        for (index, length) in lent.iter_mut().enumerate() {
+            let (before, after) = (before.as_array()[index], after.as_array()[index]);
+            *length = length.saturating_add(after).saturating_sub(before);
+        }
+        decode.n = lists.n;
+        decode.starts = starts.clone();
+        decode.columns = columns.clone();
+        decode.lent = LentLengths::from_array(lent);
+        if let Some(kept) = kept {
+            decode.values = f32_bytes(&kept_of(&f32_list(&decode.values), kept));
+        }
+    });
+    match &mut case {
+        Case::Twin(twin) => {
+            if let Some(kept) = kept {
+                twin.word = kept_of(&twin.word, kept);
+            }
+        }
+        Case::Write(write) => {
+            (write.n, write.starts, write.columns) = (lists.n, starts, columns);
+        }
+        Case::Decode(_) | Case::Read(_) => {}
+    }
+    case
+}
+
+fn needed(case: &DecodeCase) -> LentLengths {
+    LentLengths::needed(case.n, case.columns.len() / 2)
+}
+
+fn kept_of<T: Copy>(list: &[T], kept: &[usize]) -> Vec<T> {
+    kept.iter().filter_map(|&index| list.get(index).copied()).collect()
+}
+
+fn with_exact_buffers(case: &Case) -> Option<Case> {
+    let decode = decode_of(case)?;
+    let exact = needed(decode);
+    (decode.lent != exact).then(|| with_decode(case, |decode| decode.lent = exact))
+}
+
+fn values_of(case: &Case) -> Vec<f32> {
+    decode_of(case).map_or(Vec::new(), |decode| f32_list(&decode.values))
+}
+
+/// These values as +0.0 or, where that is tried one by one, as 1.0 of their sign.
+fn with_plainer_values(case: &Case, part: Range<usize>) -> Option<Case> {
+    let mut values = values_of(case);
+    let single = part.len() == 1;
+    for value in &mut values[part] {
+        *value = match value.abs() {
+            1.0 | 0.0 => 0.0,
+            _ if single => 1.0_f32.copysign(*value),
+            _ => 0.0,
+        };
+    }
+    let bytes = f32_bytes(&values);
+    let changed = decode_of(case)?.values != bytes;
+    changed.then(|| with_decode(case, |decode| decode.values = bytes.clone()))
+}
+
+fn with_settings(case: &Case, settings: Settings) -> Case {
+    with_decode(case, |decode| decode.settings = settings)
+}
+
+/// Settings that are plainer in one way each.
+fn plainer_settings(case: &Case) -> Vec<Settings> {
+    let Some(&DecodeCase { settings: s, .. }) = decode_of(case) else {
+        return Vec::new();
+    };
+    let candidates = [
+        (s.limit > 0, Settings { limit: s.limit / 2, ..s }),
+        (s.limit > 0, Settings { limit: s.limit.saturating_sub(1), ..s }),
+        (s.kind != 0, Settings { kind: 0, ..s }),
+        (s.gain.to_bits() != 1.0_f32.to_bits(), Settings { gain: 1.0, ..s }),
+        (s.variance.to_bits() != 0, Settings { variance: 0.0, ..s }),
+        ((s.channel, s.message) != (3, 3), Settings { channel: 3, message: 3, ..s }),
+        (s.phi_s != 0, Settings { phi_s: 0, ..s }),
+        (s.phi_a != 0, Settings { phi_a: 0, ..s }),
+        (s.phi_0 != 0, Settings { phi_0: 0, ..s }),
+    ];
+    candidates.into_iter().filter(|candidate| candidate.0).map(|candidate| candidate.1).collect()
+}

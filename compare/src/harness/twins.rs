@@ -1,0 +1,120 @@
+//! Twin runs: values negated where a codeword is 1 give the mirrored run, by the decoder
+//! alone. Where the word is no codeword, some iteration limit shows a difference.
+
+use super::check::Seen;
+use crate::generate::cases::{DecodeCase, TwinCase};
+use crate::interface::{
+    Answer, DecodeInput, Decoded, Decoder, GraphBytes, Lent, Settings, u16_list,
+};
+use crate::paper::{Graph, count_odd_checks};
+
+/// What a run reports and leaves behind.
+struct Run {
+    decoded: Decoded,
+    levels: Vec<u8>,
+    variable_messages: Vec<u8>,
+    check_messages: Vec<u8>,
+    sums: Vec<u8>,
+    bits: Vec<u8>,
+}
+
+pub fn check_twin(case: &TwinCase, decoder: &dyn Decoder) -> Result<Seen, String> {
+    let decode = &case.decode;
+    let (starts, columns) = (u16_list(&decode.starts), u16_list(&decode.columns));
+    let graph = Graph { n: decode.n, starts: &starts, columns: &columns };
+    let seen = |call| Ok(Seen { call, refusal: 0, iterations: None });
+    let Ok(odd_checks) = count_odd_checks(&graph, &case.word) else {
+        return seen("no twin");
+    };
+    if odd_checks == 0 {
+        let (run, twin) = twin_runs(decode.settings.limit, case, decoder)?;
+        mirrors(&run, &twin, &case.word, &columns)?;
+        return seen("twin");
+    }
+    // A check that is odd in the word turns its messages the other way in iteration 1,
+    // unless one of the runs has stopped before.
+    for limit in 0..=1 {
+        let (run, twin) = twin_runs(limit, case, decoder)?;
+        if mirrors(&run, &twin, &case.word, &columns).is_err() {
+            return seen("twin by no codeword");
+        }
+    }
+    Err("the run is mirrored by a word that is no codeword".to_string())
+}
+
+/// The run on the values, and the run on the values negated where the word is 1.
+fn twin_runs(limit: u32, case: &TwinCase, decoder: &dyn Decoder) -> Result<(Run, Run), String> {
+    let settings = Settings { limit, ..case.decode.settings };
+    let values = &case.decode.values;
+    let mut negated = values.clone();
+    for (value, &bit) in negated.chunks_exact_mut(4).zip(&case.word) {
+        value[3] ^= bit << 7;
+    }
+    let run_on = |values: &[u8]| run(&case.decode, values, settings, decoder);
+    Ok((run_on(values)?, run_on(&negated)?))
+}
+
+fn run(
+    case: &DecodeCase,
+    values: &[u8],
+    settings: Settings,
+    decoder: &dyn Decoder,
+) -> Result<Run, String> {
+    let [mut levels, mut variable_messages, mut check_messages, mut sums, mut bits] =
+        case.lent.as_array().map(|length| vec![0x55; length]);
+    let graph = GraphBytes { n: case.n, starts: &case.starts, columns: &case.columns };
+    let answer = decoder.decode(
+        &DecodeInput { graph, values, settings },
+        &mut Lent {
+            levels: &mut levels,
+            variable_messages: &mut variable_messages,
+            check_messages: &mut check_messages,
+            sums: &mut sums,
+            bits: &mut bits,
+        },
+    );
+    match answer {
+        Answer::Accepted(decoded) => {
+            Ok(Run { decoded, levels, variable_messages, check_messages, sums, bits })
+        }
+        other => Err(format!("a twin run is answered {other:?}")),
+    }
+}
+
+/// Whether two runs of the same graph and settings mirror each other by the word.
+fn mirrors(run: &Run, twin: &Run, word: &[u8], columns: &[u16]) -> Result<(), String> {
+    if run.decoded != twin.decoded {
+        return Err(format!("twin runs give {:?} and {:?}", run.decoded, twin.decoded));
+    }
+    let by_variable = |bytes: &[u8], turned: u8| -> Vec<u8> {
+        bytes.iter().zip(word).map(|(byte, bit)| byte ^ (turned * bit)).collect()
+    };
+    let by_entry = |bytes: &[u8]| -> Vec<u8> {
+        let bits = columns.iter().map(|&variable| word[variable as usize]);
+        bytes.iter().zip(bits).map(|(byte, bit)| byte ^ (bit << 7)).collect()
+    };
+    let negated_sums = |bytes: &[u8]| -> Vec<u8> {
+        let sums = bytes.chunks_exact(4).map(|b| i32::from_le_bytes([b[0], b[1], b[2], b[3]]));
+        let turned =
+            sums.zip(word).map(|(sum, &bit)| if bit == 1 { sum.wrapping_neg() } else { sum });
+        turned.flat_map(i32::to_le_bytes).collect()
+    };
+    // At iteration 0 all check messages and sums are 0 in both runs.
+    let check_messages = match run.decoded.iterations {
+        0 => run.check_messages.clone(),
+        _ => by_entry(&run.check_messages),
+    };
+    let lists = [
+        ("levels", by_variable(&run.levels, 128), &twin.levels),
+        ("bits", by_variable(&run.bits, 1), &twin.bits),
+        ("variable messages", by_entry(&run.variable_messages), &twin.variable_messages),
+        ("check messages", check_messages, &twin.check_messages),
+        ("sums", negated_sums(&run.sums), &twin.sums),
+    ];
+    for (name, mirrored, found) in &lists {
+        if let Some(at) = (0..mirrored.len()).find(|&at| mirrored[at] != found[at]) {
+            return Err(format!("byte {at} of {name} in the twin run is not the mirrored one"));
+        }
+    }
+    Ok(())
+}

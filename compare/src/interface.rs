@@ -1,0 +1,156 @@
+//! What the calls take and give, shared by every implementation in this package.
+//!
+//! Lists are byte slices, lowest byte first. A list's count is its length divided by the
+//! width, rounded down; bytes past the last whole element are never read or written.
+
+/// A refusal's number and place.
+#[derive(Clone, Copy, Debug, PartialEq, Eq)]
+pub struct Refusal {
+    pub number: u8,
+    pub place: usize,
+}
+
+#[derive(Clone, Copy, Debug, PartialEq, Eq)]
+pub enum Verdict {
+    Codeword,
+    Stopped,
+}
+
+/// The numbers that an accepted decode reports.
+#[derive(Clone, Copy, Debug, PartialEq, Eq)]
+pub struct Decoded {
+    pub verdict: Verdict,
+    pub iterations: usize,
+    pub unsatisfied: usize,
+}
+
+/// The numbers that an accepted read of a sheet reports.
+#[derive(Clone, Copy, Debug, PartialEq, Eq)]
+pub struct SheetCounts {
+    pub n: usize,
+    pub m: usize,
+    pub entries: usize,
+}
+
+/// What a call answers. `Malformed` is an answer outside the agreed packing.
+#[derive(Clone, Copy, Debug, PartialEq, Eq)]
+pub enum Answer<T> {
+    Accepted(T),
+    Refused(u8),
+    Malformed(u64),
+}
+
+/// A decode's settings, as the host gives them: nothing is checked yet.
+#[derive(Clone, Copy, Debug)]
+pub struct Settings {
+    pub kind: u32,
+    pub gain: f32,
+    pub variance: f32,
+    pub channel: u32,
+    pub message: u32,
+    pub phi_s: u32,
+    pub phi_a: u32,
+    pub phi_0: u32,
+    pub limit: u32,
+}
+
+#[derive(Clone, Copy)]
+pub struct GraphBytes<'a> {
+    pub n: usize,
+    pub starts: &'a [u8],
+    pub columns: &'a [u8],
+}
+
+#[derive(Clone, Copy)]
+pub struct DecodeInput<'a> {
+    pub graph: GraphBytes<'a>,
+    pub values: &'a [u8],
+    pub settings: Settings,
+}
+
+/// The five buffers lent to decode.
+pub struct Lent<'a> {
+    pub levels: &'a mut [u8],
+    pub variable_messages: &'a mut [u8],
+    pub check_messages: &'a mut [u8],
+    pub sums: &'a mut [u8],
+    pub bits: &'a mut [u8],
+}
+
+/// Their lengths in bytes.
+#[derive(Clone, Copy, Debug, PartialEq, Eq)]
+pub struct LentLengths {
+    pub levels: usize,
+    pub variable_messages: usize,
+    pub check_messages: usize,
+    pub sums: usize,
+    pub bits: usize,
+}
+
+impl LentLengths {
+    /// What a run on `n` variables and `entries` graph entries needs.
+    pub fn needed(n: usize, entries: usize) -> LentLengths {
+        LentLengths {
+            levels: n,
+            variable_messages: entries,
+            check_messages: entries,
+            sums: n.saturating_mul(4),
+            bits: n,
+        }
+    }
+
+    pub fn as_array(&self) -> [usize; 5] {
+        [self.levels, self.variable_messages, self.check_messages, self.sums, self.bits]
+    }
+
+    pub fn from_array(lengths: [usize; 5]) -> LentLengths {
+        let [levels, variable_messages, check_messages, sums, bits] = lengths;
+        LentLengths { levels, variable_messages, check_messages, sums, bits }
+    }
+
+    pub fn covers(&self, needed: &LentLengths) -> bool {
+        let mut pairs = self.as_array().into_iter().zip(needed.as_array());
+        pairs.all(|(lent, needed)| lent >= needed)
+    }
+}
+
+/// The host's calls. Every `_place` is the companion that tells where a refusal is,
+/// and 0 where nothing is refused.
+pub trait Decoder {
+    fn decode(&self, input: &DecodeInput, lent: &mut Lent) -> Answer<Decoded>;
+    fn decode_place(&self, input: &DecodeInput, lent: &LentLengths) -> usize;
+
+    /// Whether the four calls below are there; where they are not, their inputs are passed over.
+    fn has_sheets(&self) -> bool {
+        true
+    }
+
+    fn read_sheet(&self, text: &[u8], starts: &mut [u8], columns: &mut [u8])
+    -> Answer<SheetCounts>;
+    fn read_sheet_place(&self, text: &[u8], starts: usize, columns: usize) -> usize;
+
+    fn write_sheet(&self, graph: &GraphBytes, text: &mut [u8]) -> Answer<usize>;
+    fn write_sheet_place(&self, graph: &GraphBytes, text: usize) -> usize;
+}
+
+pub fn u16_list(bytes: &[u8]) -> Vec<u16> {
+    let elements = bytes.chunks_exact(2);
+    elements.map(|b| u16::from_le_bytes([b[0], b[1]])).collect()
+}
+
+pub fn f32_list(bytes: &[u8]) -> Vec<f32> {
+    let elements = bytes.chunks_exact(4);
+    elements.map(|b| f32::from_le_bytes([b[0], b[1], b[2], b[3]])).collect()
+}
+
+pub fn u16_bytes(list: &[u16]) -> Vec<u8> {
+    list.iter().flat_map(|element| element.to_le_bytes()).collect()
+}
+
+pub fn i32_bytes(list: &[i32]) -> Vec<u8> {
+    list.iter().flat_map(|element| element.to_le_bytes()).collect()
+}
+
+pub fn f32_bytes(list: &[f32]) -> Vec<u8> {
+    list.iter().flat_map(|element| element.to_le_bytes()).collect()
+}

@@ -1,0 +1,176 @@
+//! The proved library's C interface and safe wrappers: the only file that knows how
+//! slices are passed and answers packed. It is built when the archive is linked.
+
+use crate::interface::{
+    Answer, DecodeInput, Decoded, Decoder, GraphBytes, Lent, LentLengths, SheetCounts, Verdict,
+};
+
+unsafe extern "C" {
+    fn frame_decode(
+        n: usize,
+        starts: *const u8,
+        starts_length: usize,
+        columns: *const u8,
+        columns_length: usize,
+        values: *const u8,
+        values_length: usize,
+        kind: u32,
+        gain: f32,
+        variance: f32,
+        channel: u32,
+        message: u32,
+        phi_s: u32,
+        phi_a: u32,
+        phi_0: u32,
+        limit: u32,
+        levels: *mut u8,
+        levels_length: usize,
+        variable_messages: *mut u8,
+        variable_messages_length: usize,
+        check_messages: *mut u8,
+        check_messages_length: usize,
+        sums: *mut u8,
+        sums_length: usize,
+        bits: *mut u8,
+        bits_length: usize,
+    ) -> u64;
+    fn frame_decode_place(
+        n: usize,
+        starts: *const u8,
+        starts_length: usize,
+        columns: *const u8,
+        columns_length: usize,
+        values: *const u8,
+        values_length: usize,
+        kind: u32,
+        gain: f32,
+        variance: f32,
+        channel: u32,
+        message: u32,
+        phi_s: u32,
+        phi_a: u32,
+        phi_0: u32,
+        limit: u32,
+        levels_length: usize,
+        variable_messages_length: usize,
+        check_messages_length: usize,
+        sums_length: usize,
+        bits_length: usize,
+    ) -> usize;
+}
+
+pub struct Library;
+
+impl Decoder for Library {
+    fn decode(&self, input: &DecodeInput, lent: &mut Lent) -> Answer<Decoded> {
+        let (graph, values, settings) = (&input.graph, input.values, &input.settings);
+        // SAFETY: every pointer comes from a slice and stands with that slice's length.
+        let answer = unsafe {
+            frame_decode(
+                graph.n,
+                graph.starts.as_ptr(),
+                graph.starts.len(),
+                graph.columns.as_ptr(),
+                graph.columns.len(),
+                values.as_ptr(),
+                values.len(),
+                settings.kind,
+                settings.gain,
+                settings.variance,
+                settings.channel,
+                settings.message,
+                settings.phi_s,
+                settings.phi_a,
+                settings.phi_0,
+                settings.limit,
+                lent.levels.as_mut_ptr(),
+                lent.levels.len(),
+                lent.variable_messages.as_mut_ptr(),
+                lent.variable_messages.len(),
+                lent.check_messages.as_mut_ptr(),
+                lent.check_messages.len(),
+                lent.sums.as_mut_ptr(),
+                lent.sums.len(),
+                lent.bits.as_mut_ptr(),
+                lent.bits.len(),
+            )
+        };
+        unpacked(answer, |answer| {
+            let verdict = match field(answer, 8, 8) {
+                0 => Verdict::Codeword,
+                1 => Verdict::Stopped,
+                _ => return None,
+            };
+            Some(Decoded {
+                verdict,
+                iterations: field(answer, 16, 16),
+                unsatisfied: field(answer, 32, 32),
+            })
+        })
+    }
+
+    fn decode_place(&self, input: &DecodeInput, lent: &LentLengths) -> usize {
+        let (graph, values, settings) = (&input.graph, input.values, &input.settings);
+        // SAFETY: as above.
+        unsafe {
+            frame_decode_place(
+                graph.n,
+                graph.starts.as_ptr(),
+                graph.starts.len(),
+                graph.columns.as_ptr(),
+                graph.columns.len(),
+                values.as_ptr(),
+                values.len(),
+                settings.kind,
+                settings.gain,
+                settings.variance,
+                settings.channel,
+                settings.message,
+                settings.phi_s,
+                settings.phi_a,
+                settings.phi_0,
+                settings.limit,
+                lent.levels,
+                lent.variable_messages,
+                lent.check_messages,
+                lent.sums,
+                lent.bits,
+            )
+        }
+    }
+
+    /// The library exports no sheet calls yet.
+    fn has_sheets(&self) -> bool {
+        false
+    }
+
+    fn read_sheet(&self, _: &[u8], _: &mut [u8], _: &mut [u8]) -> Answer<SheetCounts> {
+        unimplemented!("frame_read_sheet")
+    }
+
+    fn read_sheet_place(&self, _: &[u8], _: usize, _: usize) -> usize {
+        unimplemented!("frame_read_sheet_place")
+    }
+
+    fn write_sheet(&self, _: &GraphBytes, _: &mut [u8]) -> Answer<usize> {
+        unimplemented!("frame_write_sheet")
+    }
+
+    fn write_sheet_place(&self, _: &GraphBytes, _: usize) -> usize {
+        unimplemented!("frame_write_sheet_place")
+    }
+}
+
+/// The low 8 bits are the refusal's number, 0 where nothing is refused; for a refusal the
+/// other bits are 0.
+fn unpacked<T>(answer: u64, accepted: impl Fn(u64) -> Option<T>) -> Answer<T> {
+    match (answer as u8, answer >> 8) {
+        (0, _) => accepted(answer).map_or(Answer::Malformed(answer), Answer::Accepted),
+        (number, 0) => Answer::Refused(number),
+        _ => Answer::Malformed(answer),
+    }
+}
+
+fn field(answer: u64, low: u32, width: u32) -> usize {
+    ((answer >> low) & ((1 << width) - 1)) as usize
+}

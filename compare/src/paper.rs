@@ -1,0 +1,20 @@
+//! The paper's rules, naive and clear. Quoted words in the comments are the paper's.
+
+pub mod graph;
+pub mod program;
+pub mod quantiser;
+pub mod rules;
+pub mod run;
+pub mod sheet;
+pub mod text;
+
+pub use crate::interface::Refusal;
+pub use graph::{Graph, check_graph, count_odd_checks, row_of_check};
+pub use program::frame;
+pub use quantiser::{Level, Scaling, quantise};
+pub use run::{Outcome, decode};
+pub use sheet::{Sheet, read_sheet, write_sheet};
+
+fn refuse<T>(number: u8, place: usize) -> Result<T, Refusal> {
+    Err(Refusal { number, place })
+}

@@ -1,0 +1,141 @@
+//! The parity-check graph: its check, a check's row, and the odd checks of given bits.
+
+use super::{Refusal, refuse};
+use std::ops::{Range, RangeInclusive};
+
+pub const VARIABLES: RangeInclusive<usize> = 2..=8_192;
+pub const CHECKS: RangeInclusive<usize> = 1..=8_192;
+pub const MOST_ENTRIES: usize = 32_768;
+pub const CHECK_DEGREES: RangeInclusive<usize> = 2..=64;
+pub const VARIABLE_DEGREES: RangeInclusive<usize> = 1..=32;
+
+/// "Two u16 lists hold the graph: m+1 row starts, and E columns in check order."
+#[derive(Clone, Copy, Debug)]
+pub struct Graph<'a> {
+    pub n: usize,
+    pub starts: &'a [u16],
+    pub columns: &'a [u16],
+}
+
+impl<'a> Graph<'a> {
+    /// The number of checks. "No starts counts as bad m": 0, like a single start.
+    pub fn m(&self) -> usize {
+        self.starts.len().saturating_sub(1)
+    }
+
+    pub fn entries(&self) -> usize {
+        self.columns.len()
+    }
+
+    /// The entries of one check, for starts that are in order.
+    pub fn row(&self, check: usize) -> Range<usize> {
+        self.starts[check] as usize..self.starts[check + 1] as usize
+    }
+
+    pub fn rows(&self) -> impl Iterator<Item = Range<usize>> {
+        (0..self.m()).map(|check| self.row(check))
+    }
+
+    /// For each variable the entries it stands in, in graph order.
+    pub fn entries_of_variables(&self) -> Vec<Vec<usize>> {
+        let mut entries = vec![Vec::new(); self.n];
+        for (entry, &variable) in self.columns.iter().enumerate() {
+            entries[variable as usize].push(entry);
+        }
+        entries
+    }
+}
+
+/// "Each looked for over the whole input before the next."
+pub fn check_graph(graph: &Graph) -> Result<(), Refusal> {
+    check_counts(graph)?;
+    check_starts(graph)?;
+    check_columns_below_n(graph)?;
+    check_columns_rising(graph)?;
+    check_degrees(graph)
+}
+
+fn check_counts(graph: &Graph) -> Result<(), Refusal> {
+    let admitted = VARIABLES.contains(&graph.n)
+        && CHECKS.contains(&graph.m())
+        && graph.entries() <= MOST_ENTRIES;
+    if admitted { Ok(()) } else { refuse(2, 0) }
+}
+
+/// "Starts not beginning at 0, one below the start before it, or not ending at E (first
+/// such index, the ends being 0 and m)."
+fn check_starts(graph: &Graph) -> Result<(), Refusal> {
+    let starts = graph.starts;
+    let bad = |&index: &usize| {
+        (index == 0 && starts[0] != 0)
+            || (index > 0 && starts[index] < starts[index - 1])
+            || (index == graph.m() && starts[index] as usize != graph.entries())
+    };
+    match (0..=graph.m()).find(bad) {
+        Some(index) => refuse(7, index),
+        None => Ok(()),
+    }
+}
+
+fn check_columns_below_n(graph: &Graph) -> Result<(), Refusal> {
+    let mut columns = graph.columns.iter();
+    match columns.position(|&column| column as usize >= graph.n) {
+        Some(index) => refuse(3, index),
+        None => Ok(()),
+    }
+}
+
+fn check_columns_rising(graph: &Graph) -> Result<(), Refusal> {
+    for row in graph.rows() {
+        for index in row.start + 1..row.end {
+            if graph.columns[index] <= graph.columns[index - 1] {
+                return refuse(4, index);
+            }
+        }
+    }
+    Ok(())
+}
+
+/// "A degree outside its limits (lowest check, else m + lowest variable)."
+fn check_degrees(graph: &Graph) -> Result<(), Refusal> {
+    let bad_check = |row: Range<usize>| !CHECK_DEGREES.contains(&row.len());
+    if let Some(check) = graph.rows().position(bad_check) {
+        return refuse(5, check);
+    }
+    let bad_variable = |entries: Vec<usize>| !VARIABLE_DEGREES.contains(&entries.len());
+    let mut variables = graph.entries_of_variables().into_iter();
+    match variables.position(bad_variable) {
+        Some(variable) => refuse(5, graph.m() + variable),
+        None => Ok(()),
+    }
+}
+
+/// "The columns of one check are handed back as that part of the caller's list."
+pub fn row_of_check<'a>(graph: &Graph<'a>, check: usize) -> Result<&'a [u16], Refusal> {
+    check_graph(graph)?;
+    if check >= graph.m() {
+        return refuse(3, check);
+    }
+    Ok(&graph.columns[graph.row(check)])
+}
+
+pub fn count_odd_checks(graph: &Graph, bits: &[u8]) -> Result<usize, Refusal> {
+    check_graph(graph)?;
+    if bits.len() != graph.n {
+        return refuse(13, 0);
+    }
+    if let Some(index) = bits.iter().position(|&bit| bit > 1) {
+        return refuse(15, index);
+    }
+    Ok(odd_checks(graph, bits))
+}
+
+/// How many checks have an odd number of ones.
+pub fn odd_checks(graph: &Graph, bits: &[u8]) -> usize {
+    let is_odd = |row: &Range<usize>| {
+        let ones =
+            graph.columns[row.clone()].iter().filter(|&&variable| bits[variable as usize] == 1);
+        ones.count() % 2 == 1
+    };
+    graph.rows().filter(is_odd).count()
+}

@@ -1,0 +1,155 @@
+//! Decode: what it turns down, and the run over the iterations.
+
+use super::graph::{Graph, check_graph, odd_checks};
+use super::quantiser::{Level, Scaling, largest_magnitude, quantise};
+use super::rules::{
+    Offsets, bit, check_message, first_message, outgoing_sum, posterior_sum, variable_message,
+};
+use super::{Refusal, refuse};
+use crate::interface::{LentLengths, Settings, Verdict};
+
+/// What an accepted decode reports and leaves in the lent memory.
+#[derive(Clone, Debug, PartialEq, Eq)]
+pub struct Outcome {
+    pub verdict: Verdict,
+    pub iterations: usize,
+    pub unsatisfied: usize,
+    pub levels: Vec<Level>,
+    pub variable_messages: Vec<Level>,
+    pub check_messages: Vec<Level>,
+    pub sums: Vec<i32>,
+    pub bits: Vec<u8>,
+}
+
+/// Settings that nothing is wrong with.
+#[derive(Clone, Copy, Debug)]
+pub struct Checked {
+    pub factor: f32,
+    pub nch: u8,
+    pub nq: u8,
+    pub offsets: Offsets,
+    pub limit: usize,
+}
+
+pub fn decode(
+    graph: &Graph,
+    values: &[f32],
+    settings: &Settings,
+    lent: &LentLengths,
+) -> Result<Outcome, Refusal> {
+    check_graph(graph)?;
+    if values.len() != graph.n {
+        return refuse(13, values.len());
+    }
+    let checked = check_settings(settings)?;
+    if let Some(index) = values.iter().position(|value| !value.is_finite()) {
+        return refuse(12, index);
+    }
+    if !lent.covers(&LentLengths::needed(graph.n, graph.entries())) {
+        return refuse(6, 0);
+    }
+    Ok(run(graph, values, &checked))
+}
+
+/// 8, 9, 10 and 11, in that order.
+pub fn check_settings(settings: &Settings) -> Result<Checked, Refusal> {
+    let (channel, message) = (settings.channel, settings.message);
+    let channel_admitted = channel == 3 || channel == 4;
+    if !(channel_admitted && (message == channel || message == channel - 1)) {
+        return refuse(8, 0);
+    }
+    let offsets = [settings.phi_s, settings.phi_a, settings.phi_0];
+    if offsets.iter().any(|&offset| offset > 1) || settings.limit > 255 {
+        return refuse(9, 0);
+    }
+    let factor = scaling(settings)?.factor();
+    if factor.is_infinite() || factor == 0.0 {
+        return refuse(11, 0);
+    }
+    Ok(Checked {
+        factor,
+        nch: largest_magnitude(channel),
+        nq: largest_magnitude(message),
+        offsets: Offsets {
+            phi_s: settings.phi_s as u8,
+            phi_a: settings.phi_a as u8,
+            phi_0: settings.phi_0 as u8,
+        },
+        limit: settings.limit as usize,
+    })
+}
+
+/// "Kind 0 is a plain gain (variance unread), 1 a gain with variance; another kind gets
+/// 10", as does a "gain or variance not finite and above zero".
+fn scaling(settings: &Settings) -> Result<Scaling, Refusal> {
+    let good = |number: f32| number.is_finite() && number > 0.0;
+    let (gain, variance) = (settings.gain, settings.variance);
+    match settings.kind {
+        0 if good(gain) => Ok(Scaling::Plain(gain)),
+        1 if good(gain) && good(variance) => Ok(Scaling::Noise(gain, variance)),
+        _ => refuse(10, 0),
+    }
+}
+
+/// "The run stops after the bits of the first iteration, 0 included, that are a codeword,
+/// [...] otherwise at the limit."
+fn run(graph: &Graph, values: &[f32], settings: &Checked) -> Outcome {
+    let nothing = Level { minus: false, magnitude: 0 };
+    let entries_of_variables = graph.entries_of_variables();
+
+    let channel = |&y: &f32| quantise(settings.factor, settings.nch, y);
+    let levels: Vec<Level> = values.iter().map(channel).collect();
+    let sent = |&variable: &u16| first_message(levels[variable as usize], settings.nq);
+    let mut variable_messages: Vec<Level> = graph.columns.iter().map(sent).collect();
+    let mut check_messages = vec![nothing; graph.entries()];
+    let mut sums = vec![0; graph.n];
+    let mut bits: Vec<u8> = levels.iter().map(|level| u8::from(level.minus)).collect();
+
+    let mut iterations = 0;
+    loop {
+        let unsatisfied = odd_checks(graph, &bits);
+        let codeword = unsatisfied == 0;
+        if codeword || iterations == settings.limit {
+            let verdict = match codeword {
+                true => Verdict::Codeword,
+                false => Verdict::Stopped,
+            };
+            return Outcome {
+                verdict,
+                iterations,
+                unsatisfied,
+                levels,
+                variable_messages,
+                check_messages,
+                sums,
+                bits,
+            };
+        }
+        // The last step of this iteration; iteration 0 has sent its messages already.
+        if iterations > 0 {
+            for (variable, entries) in entries_of_variables.iter().enumerate() {
+                let incoming = gathered(&check_messages, entries);
+                for (recipient, &entry) in entries.iter().enumerate() {
+                    let u = outgoing_sum(levels[variable], &incoming, recipient);
+                    variable_messages[entry] = variable_message(u, settings.nq, settings.offsets);
+                }
+            }
+        }
+        iterations += 1;
+        for row in graph.rows() {
+            let incoming = &variable_messages[row.clone()];
+            for (recipient, entry) in row.enumerate() {
+                check_messages[entry] = check_message(incoming, recipient);
+            }
+        }
+        for (variable, entries) in entries_of_variables.iter().enumerate() {
+            let incoming = gathered(&check_messages, entries);
+            sums[variable] = posterior_sum(levels[variable], &incoming);
+            bits[variable] = bit(sums[variable], levels[variable]);
+        }
+    }
+}
+
+fn gathered(messages: &[Level], entries: &[usize]) -> Vec<Level> {
+    entries.iter().map(|&entry| messages[entry]).collect()
+}

@@ -1,0 +1,113 @@
+//! The code sheet: read and written.
+
+use super::graph::{CHECKS, Graph, MOST_ENTRIES, VARIABLES, check_graph};
+use super::text::{Text, decimal, words};
+use super::{Refusal, refuse};
+
+const COUNTS_HEADER: &[u8] = b"variables checks";
+const ENTRIES_HEADER: &[u8] = b"check variable";
+const LINES_BEFORE_ENTRIES: usize = 3;
+
+/// The graph that a sheet describes.
+#[derive(Clone, Debug, PartialEq, Eq)]
+pub struct Sheet {
+    pub n: usize,
+    pub starts: Vec<u16>,
+    pub columns: Vec<u16>,
+}
+
+impl Sheet {
+    pub fn graph(&self) -> Graph<'_> {
+        Graph { n: self.n, starts: &self.starts, columns: &self.columns }
+    }
+}
+
+/// "Top line first, place the line counted from 1"; then 5, then 6 for the two lent
+/// lists, whose lengths are in bytes.
+pub fn read_sheet(bytes: &[u8], starts_lent: usize, columns_lent: usize) -> Result<Sheet, Refusal> {
+    let text = Text::new(bytes);
+    check_header(&text, 1, COUNTS_HEADER)?;
+    let (n, m) = counts(&text, 2)?;
+    check_header(&text, 3, ENTRIES_HEADER)?;
+    let sheet = graph_of(n, m, &entries(&text, n, m)?);
+    check_graph(&sheet.graph())?;
+    if starts_lent < 2 * sheet.starts.len() || columns_lent < 2 * sheet.columns.len() {
+        return refuse(6, 0);
+    }
+    Ok(sheet)
+}
+
+fn check_header(text: &Text, line: usize, header: &[u8]) -> Result<(), Refusal> {
+    match text.line(line) {
+        Some(found) if found == header => Ok(()),
+        _ => refuse(1, line),
+    }
+}
+
+fn two_numbers(line: &[u8]) -> Option<(usize, usize)> {
+    match words(line)[..] {
+        [first, second] => Some((decimal(first)?, decimal(second)?)),
+        _ => None,
+    }
+}
+
+fn counts(text: &Text, line: usize) -> Result<(usize, usize), Refusal> {
+    match text.line(line).and_then(two_numbers) {
+        None => refuse(1, line),
+        Some((n, m)) if VARIABLES.contains(&n) && CHECKS.contains(&m) => Ok((n, m)),
+        Some(_) => refuse(2, line),
+    }
+}
+
+/// The entry lines: 2 for one too many "before its form", then 1, 3 and 4.
+fn entries(text: &Text, n: usize, m: usize) -> Result<Vec<(usize, usize)>, Refusal> {
+    let mut entries = Vec::new();
+    for line in LINES_BEFORE_ENTRIES + 1..=text.begun() {
+        if entries.len() == MOST_ENTRIES {
+            return refuse(2, line);
+        }
+        let Some((check, variable)) = text.line(line).and_then(two_numbers) else {
+            return refuse(1, line);
+        };
+        if check >= m || variable >= n {
+            return refuse(3, line);
+        }
+        if entries.last().is_some_and(|&above| (check, variable) <= above) {
+            return refuse(4, line);
+        }
+        entries.push((check, variable));
+    }
+    Ok(entries)
+}
+
+fn graph_of(n: usize, m: usize, entries: &[(usize, usize)]) -> Sheet {
+    let entries_before = |check: usize| entries.partition_point(|entry| entry.0 < check);
+    Sheet {
+        n,
+        starts: (0..=m).map(|check| entries_before(check) as u16).collect(),
+        columns: entries.iter().map(|entry| entry.1 as u16).collect(),
+    }
+}
+
+/// "The writer gives this text and its length"; 6 when the lent text is shorter.
+pub fn write_sheet(graph: &Graph, text_lent: usize) -> Result<Vec<u8>, Refusal> {
+    check_graph(graph)?;
+    let mut text = Vec::new();
+    push_line(&mut text, COUNTS_HEADER);
+    push_line(&mut text, format!("{} {}", graph.n, graph.m()).as_bytes());
+    push_line(&mut text, ENTRIES_HEADER);
+    for (check, row) in graph.rows().enumerate() {
+        for variable in &graph.columns[row] {
+            push_line(&mut text, format!("{check} {variable}").as_bytes());
+        }
+    }
+    if text_lent < text.len() {
+        return refuse(6, 0);
+    }
+    Ok(text)
+}
+
+fn push_line(text: &mut Vec<u8>, line: &[u8]) {
+    text.extend_from_slice(line);
+    text.push(b'\n');
+}

@@ -1,0 +1,241 @@
+//! What the graph's calls and decode turn down: numbers, places and their order.
+
+mod common;
+
+use common::*;
+use compare::interface::{LentLengths, Settings};
+use compare::paper::{Graph, check_graph, count_odd_checks, decode, row_of_check};
+
+fn checked(n: usize, starts: &[u16], columns: &[u16]) -> Result<(), compare::paper::Refusal> {
+    check_graph(&Graph { n, starts, columns })
+}
+
+/// Starts of `m` checks that have `degree` entries each.
+fn even_starts(m: u16, degree: u16) -> Vec<u16> {
+    (0..=m).map(|check| check * degree).collect()
+}
+
+#[test]
+fn counts_outside_limits() {
+    let good: (&[u16], &[u16]) = (&[0, 2], &[0, 1]);
+    assert_eq!(checked(2, good.0, good.1), Ok(()));
+    for n in [0, 1, 8_193, 65_538, usize::MAX] {
+        assert_eq!(checked(n, good.0, good.1), refused(2, 0));
+    }
+    assert_eq!(checked(2, &[], &[]), refused(2, 0));
+    assert_eq!(checked(2, &[0], &[]), refused(2, 0));
+    assert_eq!(checked(2, &vec![1; 8_194], good.1), refused(2, 0));
+    assert_eq!(checked(2, good.0, &vec![9; 32_769]), refused(2, 0));
+    // At the limits the next refusals are looked for: 7 for the starts, 5 for the degree.
+    assert_eq!(checked(8_192, &[1, 2], good.1), refused(7, 0));
+    assert_eq!(checked(2, &vec![1; 8_193], good.1), refused(7, 0));
+    assert_eq!(checked(8_192, &[0, 32_768], &vec![9; 32_768]), refused(4, 1));
+    assert_eq!(checked(2, &[0, 0], &[]), refused(5, 0));
+}
+
+#[test]
+fn starts_out_of_order() {
+    let columns: &[u16] = &[0, 1, 1, 2];
+    assert_eq!(checked(3, &[1, 2, 4], columns), refused(7, 0));
+    assert_eq!(checked(3, &[0, 2, 3], columns), refused(7, 2));
+    assert_eq!(checked(3, &[0, 2, 5], columns), refused(7, 2));
+    assert_eq!(checked(3, &[0, 3, 2, 4], columns), refused(7, 2));
+    // Past E in the middle: the first index below its predecessor.
+    assert_eq!(checked(3, &[0, 9, 9, 4], columns), refused(7, 3));
+    assert_eq!(checked(3, &[0, 9, 9, 9], columns), refused(7, 3));
+    // Before 3: these columns are not below n.
+    assert_eq!(checked(3, &[0, 2, 3], &[7, 7, 7, 7]), refused(7, 2));
+}
+
+#[test]
+fn columns_out_of_range_or_order() {
+    let starts: &[u16] = &[0, 2, 4];
+    assert_eq!(checked(3, starts, &[0, 1, 1, 3]), refused(3, 3));
+    assert_eq!(checked(3, starts, &[0, 65_535, 1, 3]), refused(3, 1));
+    assert_eq!(checked(3, starts, &[0, 1, 2, 1]), refused(4, 3));
+    assert_eq!(checked(3, starts, &[1, 1, 1, 2]), refused(4, 1));
+    // A row's first column has no predecessor in the row.
+    assert_eq!(checked(3, starts, &[1, 2, 0, 1]), Ok(()));
+    // 3 anywhere comes before 4 anywhere.
+    assert_eq!(checked(3, starts, &[1, 0, 1, 3]), refused(3, 3));
+    // 4 comes before 5.
+    assert_eq!(checked(3, &[0, 1, 3], &[0, 2, 1]), refused(4, 2));
+}
+
+#[test]
+fn degrees_outside_limits() {
+    assert_eq!(checked(3, &[0, 3, 4], &[0, 1, 2, 2]), refused(5, 1));
+    assert_eq!(checked(3, &[0, 3, 3], &[0, 1, 2]), refused(5, 1));
+    // Variable 1 has degree 0: 2 checks + 1.
+    assert_eq!(checked(3, &[0, 2, 4], &[0, 2, 0, 2]), refused(5, 3));
+    // A check comes before a variable, however low.
+    assert_eq!(checked(3, &[0, 2, 3], &[1, 2, 2]), refused(5, 1));
+    let all: Vec<u16> = (0..65).collect();
+    assert_eq!(checked(64, &[0, 64], &all[..64]), Ok(()));
+    assert_eq!(checked(65, &[0, 65], &all), refused(5, 0));
+    let pairs: Vec<u16> = [0, 1].repeat(33);
+    assert_eq!(checked(2, &even_starts(32, 2), &pairs[..64]), Ok(()));
+    assert_eq!(checked(2, &even_starts(33, 2), &pairs), refused(5, 33));
+}
+
+#[test]
+fn rows() {
+    let graph = example_graph();
+    assert_eq!(row_of_check(&graph, 0), Ok(&[0, 1][..]));
+    assert_eq!(row_of_check(&graph, 1), Ok(&[1, 2][..]));
+    assert_eq!(row_of_check(&graph, 2), refused(3, 2));
+    assert_eq!(row_of_check(&graph, usize::MAX), refused(3, usize::MAX));
+    let bad = Graph { n: 2, ..graph };
+    assert_eq!(row_of_check(&bad, 9), refused(3, 3));
+    let bad = Graph { starts: &[], ..graph };
+    assert_eq!(row_of_check(&bad, 9), refused(2, 0));
+    // The row is a part of the caller's list, not a copy.
+    let row = row_of_check(&graph, 1).unwrap();
+    assert_eq!(row.as_ptr(), graph.columns[2..].as_ptr());
+}
+
+#[test]
+fn odd_checks() {
+    let graph = example_graph();
+    assert_eq!(count_odd_checks(&graph, &[0, 0, 0]), Ok(0));
+    assert_eq!(count_odd_checks(&graph, &[1, 1, 1]), Ok(0));
+    assert_eq!(count_odd_checks(&graph, &[1, 0, 0]), Ok(1));
+    assert_eq!(count_odd_checks(&graph, &[0, 1, 0]), Ok(2));
+    assert_eq!(count_odd_checks(&graph, &[0, 1]), refused(13, 0));
+    assert_eq!(count_odd_checks(&graph, &[0, 1, 0, 0]), refused(13, 0));
+    assert_eq!(count_odd_checks(&graph, &[0, 2, 3]), refused(15, 1));
+    // 13 before 15, the graph's before both.
+    assert_eq!(count_odd_checks(&graph, &[9, 9]), refused(13, 0));
+    let bad = Graph { n: 4, ..graph };
+    assert_eq!(count_odd_checks(&bad, &[9, 9]), refused(5, 2 + 3));
+}
+
+fn decode_with(change: impl Fn(&mut Settings)) -> Result<usize, compare::paper::Refusal> {
+    let mut settings = example_settings();
+    change(&mut settings);
+    let outcome = decode_freely(&example_graph(), &EXAMPLE_VALUES, &settings);
+    outcome.map(|outcome| outcome.iterations)
+}
+
+#[test]
+fn value_counts() {
+    let settings = Settings { channel: 9, ..example_settings() };
+    for count in [0, 2, 4, 7] {
+        let values = vec![f32::NAN; count];
+        // Before 8 and 12.
+        assert_eq!(decode_freely(&example_graph(), &values, &settings), refused(13, count));
+    }
+    let bad = Graph { n: 2, ..example_graph() };
+    assert_eq!(decode_freely(&bad, &[], &settings), refused(3, 3));
+}
+
+#[test]
+fn precisions_not_admitted() {
+    for (channel, message) in [(3, 3), (3, 2), (4, 4), (4, 3)] {
+        let set = |s: &mut Settings| (s.channel, s.message) = (channel, message);
+        assert!(decode_with(set).is_ok());
+    }
+    let bad = [(3, 4), (3, 1), (4, 2), (4, 5), (2, 2), (5, 5), (5, 4), (2, 1), (0, 0)];
+    let wrapped = [(0, u32::MAX), (259, 3), (3, 259), (u32::MAX, u32::MAX), (1 << 31 | 3, 3)];
+    for (channel, message) in bad.into_iter().chain(wrapped) {
+        let set = |s: &mut Settings| {
+            (s.channel, s.message) = (channel, message);
+            // 9 and 10 come later.
+            (s.phi_a, s.gain) = (2, 0.0);
+        };
+        assert_eq!(decode_with(set), refused(8, 0), "{channel} {message}");
+    }
+}
+
+#[test]
+fn offsets_and_limits() {
+    for bad in [2, 256, 65_536, u32::MAX] {
+        assert_eq!(decode_with(|s| s.phi_s = bad), refused(9, 0));
+        assert_eq!(decode_with(|s| s.phi_a = bad), refused(9, 0));
+        assert_eq!(decode_with(|s| s.phi_0 = bad), refused(9, 0));
+    }
+    for bad in [256, 257, 65_536, u32::MAX] {
+        // Before 10.
+        assert_eq!(decode_with(|s| (s.limit, s.gain) = (bad, 0.0)), refused(9, 0));
+    }
+    assert_eq!(decode_with(|s| (s.limit, s.phi_0) = (255, 1)), Ok(1));
+}
+
+const NOT_ABOVE_ZERO: [f32; 7] =
+    [0.0, -0.0, -1.0, f32::INFINITY, f32::NEG_INFINITY, f32::NAN, -f32::NAN];
+
+#[test]
+fn gains_variances_and_kinds() {
+    for bad in NOT_ABOVE_ZERO {
+        assert_eq!(decode_with(|s| s.gain = bad), refused(10, 0));
+        assert_eq!(decode_with(|s| (s.kind, s.variance, s.gain) = (1, 1.0, bad)), refused(10, 0));
+        assert_eq!(decode_with(|s| (s.kind, s.variance) = (1, bad)), refused(10, 0));
+        // The variance of a plain gain is unread.
+        assert_eq!(decode_with(|s| s.variance = bad), Ok(1));
+    }
+    for kind in [2, 3, 256, 65_536, u32::MAX] {
+        assert_eq!(decode_with(|s| (s.kind, s.variance) = (kind, 1.0)), refused(10, 0));
+        // In 10's place of the order: after 9.
+        assert_eq!(decode_with(|s| (s.kind, s.limit) = (kind, 256)), refused(9, 0));
+    }
+    // The smallest positive f32 is above zero.
+    assert!(decode_with(|s| s.gain = f32::from_bits(1)).is_ok());
+}
+
+#[test]
+fn factors_infinite_or_zero() {
+    let noise = |gain: f32, variance: f32| {
+        decode_with(move |s| (s.kind, s.gain, s.variance) = (1, gain, variance))
+    };
+    // 2 × MAX is infinite.
+    assert_eq!(noise(f32::MAX, 1.0), refused(11, 0));
+    assert_eq!(noise(f32::MAX, f32::MAX), refused(11, 0));
+    // 2 / 2^-149 is past the largest f32.
+    assert_eq!(noise(1.0, f32::from_bits(1)), refused(11, 0));
+    // 2^-148 / 2^127 is far below half the smallest f32.
+    assert_eq!(noise(f32::from_bits(1), f32::from_bits(0x7f000000)), refused(11, 0));
+    // 2^-148 / 4 = 2^-150 is half of it, and the even neighbour is 0.
+    assert_eq!(noise(f32::from_bits(1), 4.0), refused(11, 0));
+    // 2^-148 / 2 = 2^-149 is the smallest f32 itself.
+    assert!(noise(f32::from_bits(1), 2.0).is_ok());
+    // Half the largest f32 can be doubled.
+    assert!(noise(f32::MAX / 2.0, 1.0).is_ok());
+    assert!(decode_with(|s| s.gain = f32::MAX).is_ok());
+}
+
+#[test]
+fn values_infinite_or_nan() {
+    let settings = example_settings();
+    for bad in [f32::INFINITY, f32::NEG_INFINITY, f32::NAN, f32::from_bits(0xff800001)] {
+        let at_1 = decode_freely(&example_graph(), &[1.0, bad, bad], &settings);
+        assert_eq!(at_1, refused(12, 1));
+        // 11 and 10 come before, 6 after.
+        let noise = Settings { kind: 1, gain: f32::MAX, variance: 1.0, ..settings };
+        assert_eq!(decode_freely(&example_graph(), &[bad; 3], &noise), refused(11, 0));
+        let nothing = LentLengths::needed(0, 0);
+        let short = decode(&example_graph(), &[1.0, 1.0, bad], &settings, &nothing);
+        assert_eq!(short, refused(12, 2));
+    }
+    let largest = decode_freely(&example_graph(), &[f32::MAX; 3], &settings).unwrap();
+    assert_eq!(largest.levels, [plus(3); 3]);
+}
+
+#[test]
+fn buffers_too_short() {
+    // The example has 3 variables and 4 entries.
+    let needed = [3, 4, 4, 12, 3];
+    let lent = |lengths| {
+        let lengths = LentLengths::from_array(lengths);
+        decode(&example_graph(), &EXAMPLE_VALUES, &example_settings(), &lengths).map(|_| ())
+    };
+    assert_eq!(lent(needed), Ok(()));
+    for buffer in 0..needed.len() {
+        let mut short = needed;
+        short[buffer] -= 1;
+        assert_eq!(lent(short), refused(6, 0));
+        let mut long = needed;
+        long[buffer] += 1;
+        assert_eq!(lent(long), Ok(()));
+    }
+    assert_eq!(lent([0; 5]), refused(6, 0));
+}
