@@ -1,11 +1,11 @@
 -- Laws of floats: the code's comparisons, the sign bit, the size, and bit patterns.
-use mathlib.Core.Path.{_≡_, refl, sym, ap, _∙_}
-use mathlib.Core.Bool.{Bool, true, false, not, cond, _&&_, true≢false}
-use Prim.Native.Nat.{ℕ, zero, suc, _+_, _/_, _%_, _^_, _<_}
+use mathlib.Core.Path.{_≡_, refl, sym, ap, _∙_, subst}
+use mathlib.Core.Bool.{Bool, true, false, not, cond, _&&_, _||_, Bool·beq, true≢false}
+use Prim.Native.Nat.{ℕ, zero, suc, _+_, _*_, _/_, _%_, _^_, _<_}
 use native.Mathlib.Omega.{arith}
 use borrow.Author.Tests.{ltb-true, ltb-false, eq-eqb, ne-eqb, le-leb, lt-leb}
 use lib.Dec.{T, leb, ltb, eqb}
-use lib.Ieee.{Float, nan, inf, fin, binary32, div, neg, lt, ofInt, ofBits, ofFields, odd, toBits, fits, isNan}
+use lib.Ieee.{Float, nan, inf, fin, binary32, div, neg, lt, ne, eq, up, down, ofInt, ofBits, ofFields, odd, toBits, fits, isNan}
 use lib.Ieee.Bits.{ofBits-toBits}
 use lib.Ieee.Scale.{finite}
 use Rattle.channel.specs.Scaling.{whole, positive}
@@ -40,11 +40,26 @@ compared (fin s m e) = and-true _
 pub positive-is : (x : Float) → lt (ofBits binary32 0) x && lt x (div binary32 (ofBits binary32 0x3f80_0000) (ofBits binary32 0)) ≡ positive x
 positive-is x = rw (infinity-is, zero-is) (compared x)
 
-pub no-nan : (x : Float) → finite x ≡ true → T (not (isNan x))
-unfolding isNan
-no-nan nan h = absurd (true≢false (sym h))
-no-nan (inf s) h = tt
-no-nan (fin s m e) h = tt
+-- ---- only the NaN is not equal to itself
+
+sign-same : (s : Bool) → Bool·beq s s ≡ true
+sign-same true = refl
+sign-same false = refl
+
+pub other-nan : (y : Float) → ne y y ≡ true → false ≡ signBit y
+unfolding ne eq
+other-nan nan h = refl
+other-nan (inf s) h = absurd (true≢false (sym h ∙ ap not (sign-same s)))
+other-nan (fin s m e) h = absurd (true≢false (sym h ∙ ap not (level-same (m * up e * down e) s)))
+  where
+    level-same : (a : ℕ) (s : Bool) → eqb a a && (Bool·beq s s || eqb a 0) ≡ true
+    level-same a s = rw (eq-eqb a a refl, sign-same s)
+
+pub same-number : (y : Float) → ne y y ≡ false → T (not (isNan y))
+unfolding ne eq isNan
+same-number nan h = absurd (true≢false h)
+same-number (inf s) h = tt
+same-number (fin s m e) h = tt
 
 -- ---- the size, by the sign bit
 
@@ -92,15 +107,15 @@ unfolding odd neg
 odd-neg d zero k l = refl
 odd-neg d (suc q) k l = refl
 
-fields-sign : (s : Bool) (x t : ℕ) → finite (ofFields binary32 s x t) ≡ true → s ≡ signBit (ofFields binary32 s x t)
-unfolding ofFields
+fields-sign : (s : Bool) (x t : ℕ) → T (not (isNan (ofFields binary32 s x t))) → s ≡ signBit (ofFields binary32 s x t)
+unfolding ofFields isNan
 fields-sign s zero t h = sym (odd-sign 24 s t 0 149)
 fields-sign s (suc x) t h = go (eqb (suc x) 255) (eqb t 0) h
   where
-    go : (a b : Bool) → finite (cond a (cond b (inf s) nan) (odd 24 s (8388608 + t) x 149)) ≡ true
+    go : (a b : Bool) → T (not (isNan (cond a (cond b (inf s) nan) (odd 24 s (8388608 + t) x 149))))
         → s ≡ signBit (cond a (cond b (inf s) nan) (odd 24 s (8388608 + t) x 149))
     go true true h = refl
-    go true false h = absurd (true≢false (sym h))
+    go true false h = absurd h
     go false b h = sym (odd-sign 24 s (8388608 + t) x 149)
 
 fields-finite : (s : Bool) (x t : ℕ) → not (eqb x 255) ≡ finite (ofFields binary32 s x t)
@@ -125,11 +140,11 @@ fields-neg (suc x) t = go (eqb (suc x) 255) (eqb t 0)
     go false b = odd-neg 24 (8388608 + t) x 149
 
 -- the sign bit is the pattern's highest bit
-pub sign-is : (y : Float) → T (fits binary32 y) → finite y ≡ true → leb 2147483648 (toBits binary32 y) ≡ signBit y
+pub sign-is : (y : Float) → T (fits binary32 y) → T (not (isNan y)) → leb 2147483648 (toBits binary32 y) ≡ signBit y
 unfolding ofBits
 sign-is y f h =
     let e : ofBits binary32 (toBits binary32 y) ≡ y = ofBits-toBits binary32 y f in
-    fields-sign (leb 2147483648 (toBits binary32 y)) (toBits binary32 y % 2147483648 / 8388608) (toBits binary32 y % 8388608) (ap finite e ∙ h) ∙ ap signBit e
+    fields-sign (leb 2147483648 (toBits binary32 y)) (toBits binary32 y % 2147483648 / 8388608) (toBits binary32 y % 8388608) (subst (λ (z : Float). T (not (isNan z))) (sym e) h) ∙ ap signBit e
 
 -- a finite pattern is below that of infinity, the sign left out
 pub finite-is : (u : ℕ) → ltb (u % 2147483648) 2139095040 ≡ finite (ofBits binary32 u)

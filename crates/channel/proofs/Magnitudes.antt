@@ -1,18 +1,21 @@
 -- Laws of magnitudes: counting thresholds, and the level's byte.
 use mathlib.Core.Path.{_≡_, refl, ap, ap₂, _∙_}
 use mathlib.Core.Bool.{Bool, true, false, cond}
-use Prim.Native.Nat.{ℕ, zero, suc, _+_, _≤_, _<_}
+use mathlib.Core.List.{List, append-nil}
+use Prim.Native.Nat.{ℕ, zero, suc, _+_, _/_, _≤_, _<_, min}
 use native.Mathlib.Numerals.{add-one}
 use native.Mathlib.Omega.{arith}
 use lib.Dec.{lit≤}
 use lib.Ieee.{Float, binary32, mul, lt}
+use lib.ListN.{length, drop-of-length-le}
 use mir.Syntax.{w8}
 use mir.Val.{Fits, boolByte}
-use Rattle.rules.specs.Ranges.{fold, one, count}
+use Rattle.rules.specs.Ranges.{fold, one, count, tabulate}
 use Rattle.rules.specs.Levels.{byte, largest}
 use Rattle.rules.proofs.Ranges.{count-le}
 use Rattle.channel.specs.Scaling.{whole}
 use Rattle.channel.specs.Quantiser.{signBit, size, wholesBelow, levelFor}
+use Rattle.channel.specs.Values.{channelLevel, quantised}
 use Rattle.channel.specs.Theorems.{MagnitudesWithin}
 
 pub below-none : (p : Float) → 0 ≡ wholesBelow 0 p
@@ -63,3 +66,11 @@ pub level-byte : (N : ℕ) (factor y : Float) {m s : ℕ} → m ≡ wholesBelow 
     → m + s ≡ byte (levelFor N factor y)
 unfolding levelFor byte
 level-byte N factor y p q = ap₂ _+_ p q
+
+-- a level for each value, of magnitudes that a byte holds
+pub quantised-all : (N : ℕ) (factor : Float) (values old : List ℕ) → N < 128 → length old ≡ length values / 4
+    → quantised (min N 127) factor values old ≡ tabulate (λ v. byte (channelLevel N factor values v)) (length values / 4)
+quantised-all N factor values old small long =
+    let k : min N 127 ≡ N = omega arith in
+    let n : min (length old) (length values / 4) ≡ length values / 4 = omega arith in
+    rw (k, n, drop-of-length-le old {i = length values / 4} (omega arith)) (append-nil (tabulate (λ v. byte (channelLevel N factor values v)) (length values / 4)))

@@ -1,10 +1,11 @@
 -- Document 01, 'Decode', refusal 12, and the levels of all channel values. The values are f32, held in bytes.
-use mathlib.Core.List.{List}
-use Prim.Native.Nat.{ℕ, _/_}
+use mathlib.Core.List.{List, _++_}
+use Prim.Native.Nat.{ℕ, _/_, min}
 use lib.Ieee.{Float}
 use lib.Ieee.Scale.{finite}
-use lib.ListN.{length}
-use Rattle.rules.specs.Levels.{Level}
+use lib.ListN.{length, drop}
+use Rattle.rules.specs.Ranges.{tabulate}
+use Rattle.rules.specs.Levels.{Level, byte}
 use Rattle.rules.specs.Refusals.{unless, each}
 use Rattle.rules.specs.declared.Refusal.the-variants.{Value}
 use Rattle.rules.specs.declared.Judged.{Judged}
@@ -18,3 +19,9 @@ valuesJudged values = each (λ v. unless (finite (valueAt values v)) (Value v)) 
 -- The channel level of variable v.
 abbrev pub channelLevel : ℕ → Float → List ℕ → ℕ → Level
 channelLevel N factor values v = levelFor N factor (valueAt values v)
+
+-- A list of levels whose first bytes are the values' levels, as far as both lists go; the others are as they were.
+abbrev pub quantised : ℕ → Float → List ℕ → List ℕ → List ℕ
+quantised N factor values old =
+    let k : ℕ = min (length old) (length values / 4) in
+    tabulate (λ v. byte (channelLevel N factor values v)) k ++ drop k old

@@ -1,17 +1,14 @@
 // The settings, and the quantiser of channel values.
 ghost use mathlib.Core.Path.{_≡_};
-ghost use mathlib.Core.Bool.{true, cond};
-ghost use Prim.Native.Nat.{_/_, _<_, _≤_};
+ghost use mathlib.Core.Bool.{cond};
+ghost use Prim.Native.Nat.{_<_, _≤_, min};
 ghost use lib.Ieee.{binary32, ofBits};
 ghost use lib.Ieee.Scale.{finite};
-ghost use lib.ListN.{length};
-ghost use Rattle.rules.specs.Ranges.{tabulate};
-ghost use Rattle.rules.specs.Levels.{byte, largest};
-ghost use Rattle.rules.specs.declared.Judged.the-variants.{Admitted};
+ghost use Rattle.rules.specs.Levels.{byte};
 ghost use Rattle.channel.specs.Scaling.{positive, factorOf, scalingAdmitted};
 ghost use Rattle.channel.specs.Quantiser.{signBit, size, wholesBelow, levelFor};
 ghost use Rattle.channel.specs.Settings.{precisionsAdmitted, optionsAdmitted, settingsOf};
-ghost use Rattle.channel.specs.Values.{valuesJudged, channelLevel};
+ghost use Rattle.channel.specs.Values.{valuesJudged, quantised};
 use rules::Judged;
 use rules::Refusal;
 
@@ -121,31 +118,18 @@ pub fn check_settings(
     })
 }
 
-// The largest magnitude of a precision in bits.
-pub fn largest(bits: u8) -> u8
-    requires { ⌜ (2 ≤ bits) × (bits ≤ 4) ⌝ }
-    ensures { λ r. ⌜ r ≡ largest bits ⌝ }
-{
-    if bits == 2 {
-        return 1;
-    }
-    if bits == 3 {
-        return 3;
-    }
-    7
-}
-
-// Whether the sign bit of y is set.
+// Whether the sign bit of y is set. (The NaN has none.)
 fn is_minus(y: f32) -> bool
-    requires { ⌜ finite y ≡ true ⌝ }
     ensures { λ r. ⌜ r ≡ signBit y ⌝ }
 {
+    if y != y {
+        return false;
+    }
     0x8000_0000 <= f32::to_bits(y)
 }
 
 // |y|
 fn size_of(y: f32) -> f32
-    requires { ⌜ finite y ≡ true ⌝ }
     ensures { λ r. ⌜ r ≡ size y ⌝ }
 {
     if is_minus(y) { -y } else { y }
@@ -153,7 +137,6 @@ fn size_of(y: f32) -> f32
 
 // What the sign of y adds to its level's byte.
 fn sign_of(y: f32) -> u8
-    requires { ⌜ finite y ≡ true ⌝ }
     ensures { λ r. ⌜ r ≡ cond (signBit y) 128 0 ⌝ }
 {
     if is_minus(y) { 128 } else { 0 }
@@ -173,13 +156,18 @@ fn wholes_below(p: f32, most: u8) -> u8
     n
 }
 
-// The byte of the level of a channel value.
-pub fn level(factor: f32, y: f32, most: u8) -> u8
-    requires { ⌜ finite y ≡ true ⌝ }
-    requires { ⌜ most < 128 ⌝ }
-    ensures { λ r. ⌜ r ≡ byte (levelFor most factor y) ⌝ }
+// The largest magnitude that is asked for, or the largest that a byte holds.
+fn in_byte(most: u8) -> u8
+    ensures { λ r. ⌜ r ≡ min most 127 ⌝ }
 {
-    wholes_below(factor * size_of(y), most) + sign_of(y)
+    if most < 127 { most } else { 127 }
+}
+
+// The byte of the level of a channel value, of magnitudes up to `most`; a byte holds no more than 127.
+pub fn level(factor: f32, y: f32, most: u8) -> u8
+    ensures { λ r. ⌜ r ≡ byte (levelFor (min most 127) factor y) ⌝ }
+{
+    wholes_below(factor * size_of(y), in_byte(most)) + sign_of(y)
 }
 
 // Whether a bit pattern is that of a finite f32.
@@ -204,15 +192,19 @@ pub fn check_values(values: &[u8]) -> Judged
     Judged::Admitted
 }
 
-// Fills levels with the bytes of the values' levels.
-pub fn quantise(values: &[u8], factor: f32, most: u8, levels: &mut [u8])
-    requires { ⌜ length (now levels) ≡ length (now values) / 4 ⌝ }
-    requires { ⌜ valuesJudged (now values) ≡ Admitted ⌝ }
-    requires { ⌜ most < 128 ⌝ }
-    ensures { λ _. ⌜ now (levels .exit) ≡ tabulate (λ v. byte (channelLevel most factor (now (values .entry)) v)) (length (now (values .entry)) / 4) ⌝ }
+fn smaller(a: usize, b: usize) -> usize
+    ensures { λ r. ⌜ r ≡ min a b ⌝ }
 {
+    if a < b { a } else { b }
+}
+
+// Makes each level the byte of its value's level, as far as both lists go.
+pub fn quantise(values: &[u8], factor: f32, most: u8, levels: &mut [u8])
+    ensures { λ _. ⌜ now (levels .exit) ≡ quantised (min most 127) factor (now (values .entry)) (now (levels .entry)) ⌝ }
+{
+    let n = smaller(levels.len(), values.len() / 4);
     let mut v: usize = 0;
-    while v < levels.len() {
+    while v < n {
         levels[v] = level(factor, words::value(values, v), most);
         v += 1;
     }

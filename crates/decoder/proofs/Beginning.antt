@@ -21,9 +21,8 @@ use Rattle.rules.proofs.Same.{final-same, report-same}
 use Rattle.rules.proofs.Filling.{map-tabulate, tabulate-add}
 use Rattle.rules.proofs.Own.{level-bytes}
 use Rattle.words.specs.Words.{bytes, table}
-use Rattle.words.specs.Roles.{columnAt, valueAt}
+use Rattle.words.specs.Roles.{columnAt, valueAt, graphOf}
 use Rattle.words.proofs.Words.{table-ext}
-use Rattle.graph.specs.Judging.{graphOf}
 use Rattle.channel.specs.declared.Settings.{Settings}
 use Rattle.channel.specs.Values.{channelLevel}
 use Rattle.channel.proofs.Magnitudes.{magnitudes-within}

@@ -1,14 +1,14 @@
 -- The memory holds the state of the iteration, from one iteration to the next, and the run stops where the rules say.
 use mathlib.Core.Path.{_≡_, refl, sym, ap, ap₂, _∙_, fun-ext, subst}
-use mathlib.Core.Bool.{Bool, true, false, cond}
+use mathlib.Core.Bool.{Bool, true, false, not, _||_, true≢false}
 use mathlib.Core.List.{List, [], map}
 use Prim.Native.Nat.{ℕ, zero, suc, _+_, _*_, _-_, _^_, _≤_, _<_}
 use native.Mathlib.Decide.{decLt}
 use native.Mathlib.Nat.{mul-le-mul-right}
 use native.Mathlib.Numerals.{add-one}
 use native.Mathlib.Omega.{arith}
-use borrow.Author.Tests.{eq-eqb, ne-eqb}
-use lib.Dec.{eqb}
+use borrow.Author.Tests.{ne-eqb, lt-leb, leb-false}
+use lib.Dec.{eqb, leb}
 use lib.IntN.{ℤ, pos, natAbs, _-ℤ_}
 use lib.ListN.{length, getD, List·getD-map, List·getD-eq-default}
 use mir.Syntax.{w32}
@@ -19,21 +19,19 @@ use Rattle.rules.specs.Graphs.{Graph, Admitted, variableDegree, unsatisfied}
 use Rattle.rules.specs.Nodes.{Offsets, fromCheck, contribution, posterior, bitOf, outgoingSum, outgoingMagnitude, outgoing, fromVariable}
 use Rattle.rules.specs.Sequence.{Scheme, State, signPreserving, levelAt, bitAt, begun, sentIn, sent, iterated, next, state, unsatisfiedIn, stop, final, report}
 use Rattle.rules.specs.declared.Report.{Report}
-use Rattle.rules.specs.declared.Verdict.the-variants.{Codeword, Stopped}
 use Rattle.rules.proofs.Ranges.{tabulate-ext, length-tabulate, getD-tabulate, First, first-is, first-only}
 use Rattle.rules.proofs.Filling.{map-tabulate}
 use Rattle.rules.proofs.Own.{level-bytes}
 use Rattle.rules.proofs.Parity.{outgoing-is-rest}
 use Rattle.rules.proofs.Bounds.{magnitude-within, messages-within, sums-bounded}
-use Rattle.words.specs.Roles.{sumAt, sumTable}
+use Rattle.words.specs.Roles.{sumAt, sumTable, bitOfByte}
 use Rattle.words.proofs.Words.{table-ext}
-use Rattle.graph.specs.Calls.{bitOfByte}
 use Rattle.channel.proofs.Magnitudes.{largest-within}
 use Rattle.nodes.specs.Memory.{levelIn}
 use Rattle.nodes.specs.Magnitudes.{outgoingBy}
 use Rattle.nodes.proofs.Leaves.{magnitude-small}
 use Rattle.nodes.proofs.Table.{by-nine}
-use Rattle.decoder.specs.Steps.{Holds, Sized, Iterates, whenSent, Runs}
+use Rattle.decoder.specs.Steps.{Holds, Sized, Iterates, sends, whenSent, reportAt, Runs}
 use Rattle.decoder.proofs.Stepping.{sum-in, extra-small}
 
 -- ---- lists in bytes
@@ -53,6 +51,10 @@ bits-of l = fun-ext (λ v. ap (λ k. eqb k 1) (List·getD-map one l v false) ∙
     go : (b : Bool) → eqb (one b) 1 ≡ b
     go true = refl
     go false = refl
+
+-- the last step, from iteration 1 on
+sent-later : (t : ℕ) (q q′ : List ℕ) → whenSent (sends false (suc t)) q q′ ≡ q′
+sent-later t q q′ = ap (λ b. whenSent (not b) q q′) (ne-eqb (suc t) 0 (omega arith))
 
 module _ (G : Graph) (ok : Admitted G) (Nq : ℕ) (φ : Offsets) (small : Nq < 8) (y : List ℕ) where
   abbrev pub R : Scheme
@@ -108,19 +110,25 @@ module _ (G : Graph) (ok : Admitted G) (Nq : ℕ) (φ : Offsets) (small : Nq < 8
       level = ap (λ l. levelIn l e) (holds .checkMessages) ∙ ap (λ f. f e) (received-levels (suc t))
 
   -- the variable messages after the last step
-  pub sent-holds : (t E : ℕ) {q C S b nine q₁ : List ℕ} → E ≡ G .entries → Holds G (state G R t) q C S b → nine ≡ tabulate (outgoingMagnitude Nq φ) 9
-      → q₁ ≡ whenSent t q (tabulate (λ e. byte (outgoingBy nine (sumAt S (G .column e) -ℤ contribution 1 (levelIn C e)))) E)
+  sent-after : (t E : ℕ) {q C S b nine q₁ : List ℕ} → E ≡ G .entries → Holds G (state G R t) q C S b → nine ≡ tabulate (outgoingMagnitude Nq φ) 9
+      → q₁ ≡ whenSent (sends false t) q (tabulate (λ e. byte (outgoingBy nine (sumAt S (G .column e) -ℤ contribution 1 (levelIn C e)))) E)
       → q₁ ≡ map byte (sent G R (state G R t))
   unfolding signPreserving state begun next iterated sent sentIn
-  sent-holds zero E k holds is e = e ∙ holds .variableMessages
-  sent-holds (suc t) E {q} {C} {S} {b} {nine} k holds is e =
-      e ∙ ap (tabulate f₁) k ∙ tabulate-ext f₁ (λ e. byte (f e)) (G .entries) (λ e u. ap byte (outgoing-at t holds is e u)) ∙ sym (map-tabulate byte f (G .entries))
+  sent-after zero E k holds is e = e ∙ holds .variableMessages
+  sent-after (suc t) E {q} {C} {S} {b} {nine} k holds is e =
+      e ∙ sent-later t q (tabulate f₁ E) ∙ ap (tabulate f₁) k ∙ tabulate-ext f₁ (λ e. byte (f e)) (G .entries) (λ e u. ap byte (outgoing-at t holds is e u)) ∙ sym (map-tabulate byte f (G .entries))
     where
       f₁ : ℕ → ℕ
       f₁ e = byte (outgoingBy nine (sumAt S (G .column e) -ℤ contribution 1 (levelIn C e)))
 
       f : ℕ → Level
       f = fromVariable G Nq φ (levelIn y) (levelAt (state G R (suc t) .checkMessages))
+
+  pub sent-holds : (t E : ℕ) {over done : Bool} {q C S b nine q₁ : List ℕ} → E ≡ G .entries → Holds G (state G R t) q C S b → nine ≡ tabulate (outgoingMagnitude Nq φ) 9
+      → over ≡ false → done ≡ sends over t
+      → q₁ ≡ whenSent done q (tabulate (λ e. byte (outgoingBy nine (sumAt S (G .column e) -ℤ contribution 1 (levelIn C e)))) E)
+      → q₁ ≡ map byte (sent G R (state G R t))
+  sent-holds t E k holds is o d e = sent-after t E k holds is (rw (d ∙ ap (λ o. sends o t) o) at e)
 
   pub next-holds : (t : ℕ) {q C S b : List ℕ} → q ≡ map byte (sent G R (state G R t)) → Iterates G (levelIn y) (levelIn q) C S b → Holds G (state G R (t + 1)) q C S b
   unfolding signPreserving state next iterated
@@ -159,12 +167,12 @@ module _ (G : Graph) (R : Scheme) where
   pub onward-none : Onward 0
   onward-none = record { earlier = λ k l. absurd (omega arith) }
 
-  pub onward-more : {t k : ℕ} → Onward t → k ≡ unsatisfiedIn G R t → (k ≡ 0 → ⊥) → Onward (t + 1)
-  onward-more {t} {k} o e n = record { earlier = λ j l. go j l (decLt j t) }
+  pub onward-more : {t : ℕ} → Onward t → eqb (unsatisfiedIn G R t) 0 ≡ false → Onward (t + 1)
+  onward-more {t} o n = record { earlier = λ j l. go j l (decLt j t) }
     where
       go : (j : ℕ) → j < t + 1 → Dec (j < t) → eqb (unsatisfiedIn G R j) 0 ≡ false
       go j l (yes p) = o .earlier j p
-      go j l (no p) = let same : j ≡ t = omega arith in rw same (ne-eqb (unsatisfiedIn G R t) 0 (λ z. n (e ∙ z)))
+      go j l (no p) = let same : j ≡ t = omega arith in rw same n
 
   pub stops-at : {t limit : ℕ} → t ≤ limit → Onward t → (t < limit → eqb (unsatisfiedIn G R t) 0 ≡ true) → stop G R limit ≡ t
   unfolding stop
@@ -175,12 +183,9 @@ module _ (G : Graph) (R : Scheme) where
     found = λ u. f (omega arith);
   })
 
-  pub reported : (limit : ℕ) {t k : ℕ} → stop G R limit ≡ t → k ≡ unsatisfiedIn G R t
-      → record { verdict = cond (eqb k 0) Codeword Stopped; iterations = t; unsatisfied = k } ≡ report G R limit
+  pub reported : (limit : ℕ) {t k : ℕ} → stop G R limit ≡ t → k ≡ unsatisfiedIn G R t → reportAt t k ≡ report G R limit
   unfolding report
-  reported limit {t} {k} p e =
-      sym (ap (λ (t : ℕ). record { verdict = cond (eqb (unsatisfiedIn G R t) 0) Codeword Stopped; iterations = t; unsatisfied = unsatisfiedIn G R t }) p
-      ∙ ap (λ (k : ℕ). record { verdict = cond (eqb k 0) Codeword Stopped; iterations = t; unsatisfied = k }) (sym e))
+  reported limit {t} {k} p e = sym (ap (λ (t : ℕ). reportAt t (unsatisfiedIn G R t)) p ∙ ap (reportAt t) (sym e))
 
   pub ended : (limit : ℕ) {t : ℕ} {q C S b : List ℕ} → stop G R limit ≡ t → Holds G (state G R t) q C S b → Holds G (final G R limit) q C S b
   unfolding final
@@ -210,45 +215,52 @@ going-none G R limit h = record {
   onward = onward-none G R;
 }
 
-module _ {G : Graph} {R : Scheme} {limit : ℕ} {q₀ C₀ S₀ b₀ q C S b : List ℕ} {t : ℕ} (going : Going G R limit q₀ C₀ S₀ b₀ q C S b t) {k : ℕ} (odd : k ≡ unsatisfied G (bitOfByte b)) where
-  -- a codeword
-  pub going-found : k ≡ 0 → Runs G R limit (record { verdict = Codeword; iterations = t; unsatisfied = k }) q C S b
-  going-found z = record { report = ap (λ v. record { verdict = v; iterations = t; unsatisfied = k }) says ∙ reported G R limit stops is; holds = ended G R limit stops (going .holds) }
+or-left : (a b : Bool) → a || b ≡ true → b ≡ false → a ≡ true
+or-left true b h n = refl
+or-left false b h n = absurd (true≢false (sym h ∙ n))
+
+or-none : (a b : Bool) → a || b ≡ false → (a ≡ false) × (b ≡ false)
+or-none true b h = absurd (true≢false h)
+or-none false b h = (refl, h)
+
+-- not over: below the limit
+pub below : (w : Bool) (limit t : ℕ) → w || leb limit t ≡ false → t < limit
+below w limit t o = leb-false limit t (or-none w (leb limit t) o .1)
+
+-- w says whether the bits are a codeword
+module _ {G : Graph} {R : Scheme} {limit : ℕ} {q₀ C₀ S₀ b₀ q C S b : List ℕ} {t : ℕ} (going : Going G R limit q₀ C₀ S₀ b₀ q C S b t)
+    {w : Bool} (word : w ≡ eqb (unsatisfied G (bitOfByte b)) 0) where
+  word-in : w ≡ eqb (unsatisfiedIn G R t) 0
+  word-in = word ∙ ap (λ k. eqb k 0) (odd-is G R t (going .holds) refl)
+
+  -- a codeword, or the limit: nothing more is sent
+  pub going-over : {done : Bool} {k : ℕ} {r : Report} {q₁ : List ℕ} (q′ : List ℕ) → w || leb limit t ≡ true → done ≡ sends (w || leb limit t) t → q₁ ≡ whenSent done q q′
+      → k ≡ unsatisfied G (bitOfByte b) → r ≡ reportAt t k → Runs G R limit r q₁ C S b
+  going-over {done} {k} {r} {q₁} q′ o d s odd e = record {
+    report = e ∙ reported G R limit stops (odd-is G R t (going .holds) odd);
+    holds = ended G R limit stops (subst (λ (l : List ℕ). Holds G (state G R t) l C S b) (sym kept) (going .holds));
+  }
     where
-      is : k ≡ unsatisfiedIn G R t
-      is = odd-is G R t (going .holds) odd
-
       stops : stop G R limit ≡ t
-      stops = stops-at G R (going .within) (going .onward) (λ _. eq-eqb (unsatisfiedIn G R t) 0 (sym is ∙ z))
+      stops = stops-at G R (going .within) (going .onward) (λ u. sym word-in ∙ or-left w (leb limit t) o (lt-leb limit t u))
 
-      says : Codeword ≡ cond (eqb k 0) Codeword Stopped
-      says = sym (ap (λ b. cond b Codeword Stopped) (eq-eqb k 0 z))
-
-  -- the limit
-  pub going-stopped : (k ≡ 0 → ⊥) → limit ≤ t → Runs G R limit (record { verdict = Stopped; iterations = t; unsatisfied = k }) q C S b
-  going-stopped z l = record { report = ap (λ v. record { verdict = v; iterations = t; unsatisfied = k }) says ∙ reported G R limit stops is; holds = ended G R limit stops (going .holds) }
-    where
-      is : k ≡ unsatisfiedIn G R t
-      is = odd-is G R t (going .holds) odd
-
-      stops : stop G R limit ≡ t
-      stops = stops-at G R (going .within) (going .onward) (λ u. absurd (omega arith))
-
-      says : Stopped ≡ cond (eqb k 0) Codeword Stopped
-      says = sym (ap (λ b. cond b Codeword Stopped) (ne-eqb k 0 z))
+      kept : q₁ ≡ q
+      kept = s ∙ ap (λ d. whenSent d q q′) (d ∙ ap (λ o. sends o t) o)
 
   -- one iteration more
-  pub going-more : {q₁ C₁ S₁ b₁ : List ℕ} → (k ≡ 0 → ⊥) → t < limit → length q₁ ≡ length q → length C₁ ≡ length C → length S₁ ≡ length S → length b₁ ≡ length b
+  pub going-more : {q₁ C₁ S₁ b₁ : List ℕ} → w || leb limit t ≡ false
+      → length q₁ ≡ length q → length C₁ ≡ length C → length S₁ ≡ length S → length b₁ ≡ length b
       → Holds G (state G R (t + 1)) q₁ C₁ S₁ b₁ → Going G R limit q₀ C₀ S₀ b₀ q₁ C₁ S₁ b₁ (t + 1)
-  going-more z l lq lC lS lb h = record {
-    within = omega arith;
-    variableMessages = lq ∙ going .variableMessages;
-    checkMessages = lC ∙ going .checkMessages;
-    sums = lS ∙ going .sums;
-    bits = lb ∙ going .bits;
-    holds = h;
-    onward = onward-more G R (going .onward) (odd-is G R t (going .holds) odd) z;
-  }
+  going-more o lq lC lS lb h =
+      record {
+        within = omega (arith, below w limit t o);
+        variableMessages = lq ∙ going .variableMessages;
+        checkMessages = lC ∙ going .checkMessages;
+        sums = lS ∙ going .sums;
+        bits = lb ∙ going .bits;
+        holds = h;
+        onward = onward-more G R (going .onward) (sym word-in ∙ or-none w (leb limit t) o .0);
+      }
 
 -- ---- the nine magnitudes
 

@@ -16,15 +16,14 @@ use Rattle.rules.specs.Nodes.{others, fromCheck, contribution, odd, extra, chan
 use Rattle.rules.specs.Theorems.{largestSum}
 use Rattle.rules.proofs.Ranges.{tabulate-ext}
 use Rattle.rules.proofs.Bounds.{abs-contribution, posterior-bound}
-use Rattle.words.specs.Roles.{sumAt, sumTable}
+use Rattle.words.specs.Roles.{sumAt, sumTable, graphOf}
 use Rattle.words.proofs.Words.{table-ext, length-table}
 use Rattle.words.proofs.Signed.{sum-at-table}
-use Rattle.graph.specs.Judging.{graphOf}
 use Rattle.nodes.specs.Memory.{levelIn, onStarts, onColumns}
 use Rattle.nodes.specs.Rows.{Rows}
 use Rattle.nodes.proofs.Leaves.{magnitude-small}
 use Rattle.nodes.proofs.Signed.{fits-abs}
-use Rattle.decoder.specs.Steps.{Sized, Iterates, whenSent}
+use Rattle.decoder.specs.Steps.{Sized, Iterates}
 
 -- a sum in a list of sums
 pub sum-in : (f : ℕ → ℤ) (n v : ℕ) → v < n → natAbs (f v) < 2 ^ 31 → sumAt (sumTable f n) v ≡ f v
@@ -112,8 +111,3 @@ module _ (n : ℕ) (starts columns : List ℕ) (ok : Admitted (graphOf n starts 
             ∙ append-nil (sumTable (λ v. sumAt S₁ v +ℤ fold _+ℤ_ (pos 0) (share (onColumns columns) (levelIn C₁) v) 0 (length C₁)) n)
             ∙ table-ext 4 (λ v. ofZ w32 (sumAt S₁ v +ℤ fold _+ℤ_ (pos 0) (share (onColumns columns) (levelIn C₁) v) 0 (length C₁))) (λ v. ofZ w32 (total v)) n
             (λ v u. ap (ofZ w32) (ap₂ (λ s k. s +ℤ fold _+ℤ_ (pos 0) (share (onColumns columns) (levelIn C₁) v) 0 k) (part-at v u) (l ∙ sized .checkMessages)))
-
--- the last step, from iteration 1 on
-pub sent-later : (t : ℕ) (q q′ : List ℕ) → (t ≡ 0 → ⊥) → q′ ≡ whenSent t q q′
-sent-later zero q q′ h = absurd (h refl)
-sent-later (suc t) q q′ h = refl

@@ -15,8 +15,8 @@ use Rattle.rules.specs.Refusals.{unless, orElse}
 use Rattle.rules.specs.declared.Judged.{Judged}
 use Rattle.rules.specs.declared.Judged.the-variants as Judgement
 use Rattle.rules.specs.declared.Refusal.the-variants.{Length, Buffer}
-use Rattle.words.specs.Roles.{sumTable}
-use Rattle.graph.specs.Judging.{graphOf, graphJudged}
+use Rattle.words.specs.Roles.{sumTable, graphOf}
+use Rattle.graph.specs.Judging.{graphJudged}
 use Rattle.channel.specs.declared.Scaling.{Scaling}
 use Rattle.channel.specs.Scaling.{factorOf}
 use Rattle.channel.specs.Settings.{settingsJudged}

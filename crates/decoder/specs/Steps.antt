@@ -1,7 +1,9 @@
 -- What the steps of a run do, on memory of exactly the right lengths.
 use mathlib.Core.Path.{_≡_}
+use mathlib.Core.Bool.{Bool, not, cond, _&&_}
 use mathlib.Core.List.{List, map}
-use Prim.Native.Nat.{ℕ, zero, suc, _*_, _/_, _≤_, _<_}
+use Prim.Native.Nat.{ℕ, _*_, _/_, _≤_, _<_}
+use lib.Dec.{eqb}
 use lib.Ieee.{Float}
 use lib.IntN.{pos}
 use lib.ListN.{length, getD}
@@ -12,11 +14,11 @@ use Rattle.rules.specs.Nodes.{Offsets, firstMessage, firstBit, posterior, fromC
 use Rattle.rules.specs.Sequence.{Scheme, State, signPreserving, final, report}
 use Rattle.rules.specs.declared.Judged.the-variants as Judgement
 use Rattle.rules.specs.declared.Report.{Report}
-use Rattle.words.specs.Roles.{sumTable}
+use Rattle.rules.specs.declared.Verdict.the-variants.{Codeword, Stopped}
+use Rattle.words.specs.Roles.{sumTable, graphOf}
 use Rattle.channel.specs.declared.Settings.{Settings}
 use Rattle.channel.specs.Values.{valuesJudged, channelLevel}
 use Rattle.channel.specs.Theorems.{Admissible}
-use Rattle.graph.specs.Judging.{graphOf}
 use Rattle.decoder.specs.Decoding.{Room, Memory, filled}
 use Rattle.nodes.specs.Memory.{levelIn, onColumns}
 
@@ -52,10 +54,17 @@ pub record Begins (values : List ℕ) (factor : Float) (Nch Nq : ℕ) (columns :
   pub sums : S ≡ tabulate (λ k. 0) s
   pub bits : b ≡ tabulate (λ v. one (firstBit (levelIn y) v)) (length y)
 
--- The variable messages after the last step of iteration t, which are q′ unless t is 0.
-abbrev pub whenSent : ℕ → List ℕ → List ℕ → List ℕ
-whenSent zero q q′ = q
-whenSent (suc t) q q′ = q′
+-- 'The last step is not done in the iteration where it stops', and iteration 0 has none.
+abbrev pub sends : Bool → ℕ → Bool
+sends over t = not over && not (eqb t 0)
+
+-- The variable messages after the last step: q′ where it is done, else q as before.
+abbrev pub whenSent : Bool → List ℕ → List ℕ → List ℕ
+whenSent done q q′ = cond done q′ q
+
+-- The report of a run that stops at iteration t with k odd checks.
+abbrev pub reportAt : ℕ → ℕ → Report
+reportAt t k = record { verdict = cond (eqb k 0) Codeword Stopped; iterations = t; unsatisfied = k }
 
 -- The offsets of settings.
 abbrev pub offsetsIn : Settings → Offsets

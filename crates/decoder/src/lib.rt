@@ -9,10 +9,10 @@ ghost use Rattle.channel.specs.Theorems.{Admissible};
 ghost use Rattle.channel.specs.Settings.{settings, checked};
 ghost use Rattle.rules.specs.declared.Judged.the-variants as Judgement;
 ghost use Rattle.decoder.specs.Frames.{frame, memory, room};
-ghost use Rattle.graph.specs.Judging.{graphOf};
+ghost use Rattle.words.specs.Roles.{graphOf};
 ghost use Rattle.nodes.specs.Memory.{levelIn};
 ghost use Rattle.decoder.specs.Decoding.{Frame, Memory, Room, Decodes, enough, frameJudged, decodeJudged};
-ghost use Rattle.decoder.specs.Steps.{Holds, Sized, Runs, offsetsIn, Ready, exact, RunsFrom, RunsInto};
+ghost use Rattle.decoder.specs.Steps.{Holds, Sized, sends, reportAt, Runs, offsetsIn, Ready, exact, RunsFrom, RunsInto};
 use channel::Checked;
 use channel::Scaling;
 use channel::Settings;
@@ -21,12 +21,37 @@ use rules::Refusal;
 use rules::Report;
 use rules::Verdict;
 
-pub mod step; // the steps of a run
+mod step; // the steps of a run
 
 // The report of a run, or the refusal.
 pub enum Decoded {
     Ran(Report),
     Refused(Refusal),
+}
+
+// Whether the last step of iteration t is done: not where the run is over, and not in iteration 0.
+fn sends(over: bool, t: usize) -> bool
+    ensures { λ r. ⌜ r ≡ sends over t ⌝ }
+{
+    !over & (t != 0)
+}
+
+// The report of a run that stops at iteration t with so many odd checks.
+fn ended(t: usize, odd: usize) -> Report
+    ensures { λ r. ⌜ r ≡ reportAt t odd ⌝ }
+{
+    if odd == 0 {
+        return Report {
+            verdict: Verdict::Codeword,
+            iterations: t,
+            unsatisfied: odd,
+        };
+    }
+    Report {
+        verdict: Verdict::Stopped,
+        iterations: t,
+        unsatisfied: odd,
+    }
 }
 
 // The iterations from 0 to the stop.
@@ -49,22 +74,19 @@ fn run(
     let nine = nodes::variable::magnitudes(s.message, s.phi_s, s.phi_a, s.phi_0);
     let mut t: usize = 0;
     loop {
-        let odd = graph::odd_checks(n, starts, columns, bits);
-        if odd == 0 {
-            return Report {
-                verdict: Verdict::Codeword,
-                iterations: t,
-                unsatisfied: odd,
-            };
+        let codeword = syndrome::is_codeword(n, starts, columns, bits);
+        let over = codeword | (s.limit as usize <= t);
+        step::send(
+            sends(over, t),
+            columns,
+            check_messages,
+            sums,
+            &nine,
+            variable_messages,
+        );
+        if over {
+            return ended(t, syndrome::odd_checks(n, starts, columns, bits));
         }
-        if s.limit as usize <= t {
-            return Report {
-                verdict: Verdict::Stopped,
-                iterations: t,
-                unsatisfied: odd,
-            };
-        }
-        step::send(t, columns, check_messages, sums, &nine, variable_messages);
         step::iterate(
             n,
             starts,
@@ -148,6 +170,20 @@ pub fn accept(
     c
 }
 
+// The largest magnitude of a precision in bits.
+fn largest(bits: u8) -> u8
+    requires { ⌜ (2 ≤ bits) × (bits ≤ 4) ⌝ }
+    ensures { λ r. ⌜ r ≡ largest bits ⌝ }
+{
+    if bits == 2 {
+        return 1;
+    }
+    if bits == 3 {
+        return 3;
+    }
+    7
+}
+
 // Decodes an accepted frame in memory of exactly the right lengths.
 fn decode_exactly(
     s: Settings,
@@ -167,8 +203,8 @@ fn decode_exactly(
 {
     let mut degrees = [0u16; 8192];
     graph::count_degrees(columns, &mut degrees);
-    let channel_most = channel::largest(s.channel);
-    let message_most = channel::largest(s.message);
+    let channel_most = largest(s.channel);
+    let message_most = largest(s.message);
     step::begin(
         values,
         s.factor,

@@ -7,8 +7,7 @@ ghost use Rattle.rules.specs.Ranges.{tabulate};
 ghost use Rattle.rules.specs.Levels.{byte};
 ghost use Rattle.rules.specs.Nodes.{contribution};
 ghost use Rattle.rules.specs.declared.Judged.the-variants.{Admitted};
-ghost use Rattle.words.specs.Roles.{columnAt, sumAt};
-ghost use Rattle.graph.specs.Judging.{graphOf};
+ghost use Rattle.words.specs.Roles.{columnAt, sumAt, graphOf};
 ghost use Rattle.channel.specs.Values.{valuesJudged};
 ghost use Rattle.nodes.specs.Memory.{levelIn};
 ghost use Rattle.nodes.specs.Magnitudes.{outgoingBy};
@@ -39,9 +38,9 @@ pub fn begin(
     nodes::first::first_bits(levels, bits);
 }
 
-// The last step of iteration t, which iteration 0 does not have: the variable messages.
+// The last step of an iteration, where it is done: the variable messages.
 pub fn send(
-    t: usize,
+    done: bool,
     columns: &[u8],
     check_messages: &[u8],
     sums: &[u8],
@@ -52,9 +51,9 @@ pub fn send(
     requires { ⌜ ((k : ℕ) → getD (now nine) k 0 < 128) ⌝ }
     requires { ⌜ ((e : ℕ) → e < length (now «check_messages») → columnAt (now columns) e < length (now sums) / 4) ⌝ }
     requires { ⌜ ((v : ℕ) → v < length (now sums) / 4 → natAbs (sumAt (now sums) v) < 2 ^ 30) ⌝ }
-    ensures { λ _. ⌜ now («variable_messages» .exit) ≡ whenSent t (now («variable_messages» .entry)) (tabulate (λ e. byte (outgoingBy (now (nine .entry)) (sumAt (now (sums .entry)) (columnAt (now (columns .entry)) e) -ℤ contribution 1 (levelIn (now («check_messages» .entry)) e)))) (length (now («check_messages» .entry)))) ⌝ }
+    ensures { λ _. ⌜ now («variable_messages» .exit) ≡ whenSent done (now («variable_messages» .entry)) (tabulate (λ e. byte (outgoingBy (now (nine .entry)) (sumAt (now (sums .entry)) (columnAt (now (columns .entry)) e) -ℤ contribution 1 (levelIn (now («check_messages» .entry)) e)))) (length (now («check_messages» .entry)))) ⌝ }
 {
-    if t != 0 {
+    if done {
         nodes::variable::variable_nodes(columns, check_messages, sums, nine, variable_messages);
     }
 }

@@ -71,14 +71,6 @@ module _ (G : Graph) where
   pub admitted-starts : Admitted G → Starts G
   admitted-starts a = record { begins = a .begins; ends = a .ends; rises = λ i l. omega (arith, a .checkDegrees i l .0) }
 
-  -- where row i begins and ends, as read: two to 64 entries of the graph
-  pub admitted-row : Admitted G → (i : ℕ) {a b : ℕ} → i < G .checks → a ≡ G .start i → b ≡ G .start (i + 1)
-      → (a + 2 ≤ b) × (b ≤ a + 64) × (b ≤ G .entries)
-  admitted-row a i l p q =
-      let d = a .checkDegrees i l in
-      let r : G .start (i + 1) ≡ G .start (suc i) = ap (G .start) (add-one i) in
-      (omega (arith, d .0), omega (arith, d .1), row-ends G (admitted-starts a) i l p q .1)
-
   pub admitted-graph : Admitted G → graphJudged G ≡ Judgement.Admitted
   admitted-graph a = parts-admitted (record {
     counts = counts-admitted G (record { variables = a .variables; checks = a .checks; entries = a .entries });

@@ -1,6 +1,5 @@
 -- Document 01: 'Row of a check' and 'Count odd checks of given bits', and what the check of a graph means.
 use mathlib.Core.Path.{_≡_}
-use mathlib.Core.Bool.{Bool}
 use mathlib.Core.Logic.{_↔_}
 use mathlib.Core.List.{List, []}
 use Prim.Native.Nat.{ℕ, _*_}
@@ -11,6 +10,7 @@ use Rattle.rules.specs.Refusals.{unless, orElse, each}
 use Rattle.rules.specs.declared.Judged.{Judged}
 use Rattle.rules.specs.declared.Judged.the-variants as Judgement
 use Rattle.rules.specs.declared.Refusal.the-variants.{Range, Length, Bit}
+use Rattle.words.specs.Roles.{bitOfByte}
 use Rattle.graph.specs.Judging.{graphJudged}
 use Rattle.graph.specs.declared.OddChecks.{OddChecks}
 use Rattle.graph.specs.declared.OddChecks.the-variants as Answer
@@ -28,10 +28,6 @@ rowJudgement G i = orElse (graphJudged G) (unless (ltb i (G .checks)) (Range i))
 abbrev pub partOf : Judged → Graph → List ℕ → ℕ → List ℕ
 partOf Judgement.Admitted G columns i = take (2 * checkDegree G i) (drop (2 * G .start i) columns)
 partOf (Judgement.Refused r) G columns i = []
-
--- The bit of a byte, 1 being true.
-abbrev pub bitOfByte : List ℕ → ℕ → Bool
-bitOfByte bits v = eqb (getD bits v 0) 1
 
 -- '15, a byte not 0 or 1 (first index).'
 unfoldable pub bytesJudged : List ℕ → Judged

@@ -1,24 +1,11 @@
 -- Document 01, 'Check a graph': the five refusals, each looked for over the whole input before the next.
 use mathlib.Core.Bool.{Bool, not, _&&_, _||_}
-use mathlib.Core.List.{List}
-use Prim.Native.Nat.{ℕ, suc, _+_, _-_, _/_}
+use Prim.Native.Nat.{ℕ, suc, _+_, _-_}
 use lib.Dec.{eqb, leb, ltb}
-use lib.ListN.{length}
 use Rattle.rules.specs.Graphs.{Graph, checkDegree, variableDegree}
 use Rattle.rules.specs.Refusals.{unless, orElse, each}
 use Rattle.rules.specs.declared.Judged.{Judged}
 use Rattle.rules.specs.declared.Refusal.the-variants.{Count, Range, Order, Degree, Start}
-use Rattle.words.specs.Roles.{startAt, columnAt}
-
--- The graph that two byte lists hold, admitted or not. No starts make no checks, which counts as a bad m.
-abbrev pub graphOf : ℕ → List ℕ → List ℕ → Graph
-graphOf n starts columns = record {
-  variables = n;
-  checks = length starts / 2 - 1;
-  entries = length columns / 2;
-  start = startAt starts;
-  column = columnAt columns;
-}
 
 abbrev pub between : ℕ → ℕ → ℕ → Bool
 between low x high = leb low x && leb x high

@@ -1,15 +1,12 @@
 // The check of a graph, the row of a check, and the count of odd checks.
 ghost use mathlib.Core.Path.{_≡_};
-ghost use mathlib.Core.Bool.{false, xor};
-ghost use Prim.Native.Nat.{ℕ, _-_, _/_, _<_, _≤_};
-ghost use lib.ListN.{length, getD};
-ghost use lib.Dec.{eqb};
-ghost use Rattle.rules.specs.Ranges.{fold, count};
-ghost use Rattle.rules.specs.Graphs.{Admitted, unsatisfied};
+ghost use Prim.Native.Nat.{_+_, _-_, _/_, _≤_, min};
+ghost use lib.ListN.{length};
 ghost use Rattle.rules.specs.declared.Judged.the-variants as Judgement;
-ghost use Rattle.words.specs.Roles.{columnAt};
-ghost use Rattle.graph.specs.Judging.{graphOf, between, countsJudged, startFits, startsJudged, columnsJudged, spanJudged, rowsJudged, checkDegreesJudged, variableDegreesJudged, graphJudged};
-ghost use Rattle.graph.specs.Calls.{rowJudgement, partOf, bitOfByte, bytesJudged, bitsJudged, oddAnswer};
+ghost use Rattle.words.specs.Roles.{columnAt, graphOf, bitOfByte};
+ghost use Rattle.graph.specs.Judging.{between, countsJudged, startFits, startsJudged, columnsJudged, spanJudged, rowsJudged, checkDegreesJudged, variableDegreesJudged, graphJudged};
+ghost use Rattle.graph.specs.Calls.{rowJudgement, partOf, bytesJudged, bitsJudged, oddAnswer};
+ghost use Rattle.graph.specs.Degrees.{tallied};
 use rules::Judged;
 use rules::Refusal;
 
@@ -139,19 +136,25 @@ fn check_degrees(n: usize, starts: &[u8], columns: &[u8]) -> Judged
     Judged::Admitted
 }
 
-// Adds one, for each entry, to the number of its variable.
+// d + 1, or d where a u16 holds no more.
+fn one_more(d: u16) -> u16
+    ensures { λ r. ⌜ r ≡ min (d + 1) 65535 ⌝ }
+{
+    if d < 65535 { d + 1 } else { 65535 }
+}
+
+// Adds one, for each entry, to the number of its variable; a number that a u16 holds no more stays at 65,535.
 pub fn count_degrees(columns: &[u8], degrees: &mut [u16])
-    requires { ⌜ length (now columns) / 2 ≤ 32768 ⌝ }
-    requires { ⌜ ((e : ℕ) → e < length (now columns) / 2 → columnAt (now columns) e < length (now degrees)) ⌝ }
-    requires { ⌜ ((v : ℕ) → v < length (now degrees) → getD (now degrees) v 0 ≡ 0) ⌝ }
-    ensures { λ _. ⌜ ((v : ℕ) → v < length (now (degrees .entry)) → getD (now (degrees .exit)) v 0 ≡ count (λ e. eqb (columnAt (now (columns .entry)) e) v) 0 (length (now (columns .entry)) / 2)) ⌝ }
+    ensures { λ _. ⌜ now (degrees .exit) ≡ tallied (columnAt (now (columns .entry))) (length (now (columns .entry)) / 2) (now (degrees .entry)) ⌝ }
 {
     let count = columns.len() / 2;
     let mut e = 0;
     while e < count {
         let v = words::column(columns, e);
-        degrees[v] = degrees[v] + 1;
         e += 1;
+        if v < degrees.len() {
+            degrees[v] = one_more(degrees[v]);
+        }
     }
 }
 
@@ -238,41 +241,6 @@ pub enum OddChecks {
     Refused(Refusal),
 }
 
-// Whether the entries from a to before b have an odd number of ones.
-fn is_odd(columns: &[u8], a: usize, b: usize, bits: &[u8]) -> bool
-    requires { ⌜ (a ≤ b) × (b ≤ length (now columns) / 2) ⌝ }
-    requires { ⌜ ((e : ℕ) → e < length (now columns) / 2 → columnAt (now columns) e < length (now bits)) ⌝ }
-    ensures { λ r. ⌜ r ≡ fold xor false (λ e. bitOfByte (now (bits .entry)) (columnAt (now (columns .entry)) e)) a (b - a) ⌝ }
-{
-    let mut odd = false;
-    let mut k = 0;
-    while a + k < b {
-        odd = odd != (bits[words::column(columns, a + k)] == 1);
-        k += 1;
-    }
-    odd
-}
-
-// How many checks of an admitted graph have an odd number of ones.
-pub fn odd_checks(n: usize, starts: &[u8], columns: &[u8], bits: &[u8]) -> usize
-    requires { ⌜ Admitted (graphOf n (now starts) (now columns)) × (n ≤ length (now bits)) ⌝ }
-    ensures { λ r. ⌜ r ≡ unsatisfied (graphOf n (now (starts .entry)) (now (columns .entry))) (bitOfByte (now (bits .entry))) ⌝ }
-{
-    let rows = checks(starts);
-    let mut odd = 0;
-    let mut i = 0;
-    while i < rows {
-        odd += is_odd(
-            columns,
-            words::start(starts, i),
-            words::start(starts, i + 1),
-            bits,
-        ) as usize;
-        i += 1;
-    }
-    odd
-}
-
 // The first byte that is neither 0 nor 1.
 fn check_bits(bits: &[u8]) -> Judged
     ensures { λ r. ⌜ r ≡ bytesJudged (now (bits .entry)) ⌝ }
@@ -302,5 +270,5 @@ pub fn count_odd(n: usize, starts: &[u8], columns: &[u8], bits: &[u8]) -> OddChe
     if let Judged::Refused(r) = j {
         return OddChecks::Refused(r);
     }
-    OddChecks::Odd(odd_checks(n, starts, columns, bits))
+    OddChecks::Odd(syndrome::odd_checks(n, starts, columns, bits))
 }

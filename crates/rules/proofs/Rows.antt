@@ -2,6 +2,7 @@
 use mathlib.Core.Path.{_≡_, refl, sym, ap, _∙_}
 use Prim.Native.Nat.{ℕ, zero, suc, _+_, _-_, _≤_, _<_}
 use native.Mathlib.Decide.{ℕ-discrete}
+use native.Mathlib.Numerals.{add-one}
 use native.Mathlib.Omega.{arith}
 use borrow.Author.Tests.{ltb-true, ltb-false, lt-ltb, le-ltb}
 use lib.Dec.{ltb}
@@ -56,3 +57,11 @@ module _ (G : Graph) (ok : Rowed G) where
     before = λ k _ m. le-ltb e (G .start (suc k)) (omega (arith, starts-rise (suc k) i m (omega arith)));
     found = λ _. lt-ltb e (G .start (suc i)) u;
   })
+
+-- where row i begins and ends, as read: two to 64 entries of the graph
+pub admitted-row : (G : Graph) → Admitted G → (i : ℕ) {a b : ℕ} → i < G .checks → a ≡ G .start i → b ≡ G .start (i + 1)
+    → (a + 2 ≤ b) × (b ≤ a + 64) × (b ≤ G .entries)
+admitted-row G ok i l p q =
+    let d = ok .checkDegrees i l in
+    let r : G .start (i + 1) ≡ G .start (suc i) = ap (G .start) (add-one i) in
+    (omega (arith, d .0), omega (arith, d .1), omega (arith, starts-rise G (rowed ok) (suc i) (G .checks) l (omega arith), ok .ends))

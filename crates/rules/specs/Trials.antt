@@ -1,5 +1,6 @@
--- Document 01, 'Trial values': the ★ cases of variable nodes, and the whole example with its variants, as one table. A check node
--- stands there too, since 'the recipient's own message counted in a check's least' shows in none of them.
+-- Document 01, 'Trial values': the ★ cases of variable nodes, and the whole example with its variants, as one table. A check node and
+-- two ties stand there too, since neither 'the recipient's own message counted in a check's least' nor 'a tied sum sent to bit 0' shows
+-- in the others.
 use mathlib.Core.Path.{_≡_}
 use mathlib.Core.Bool.{Bool, true, false, cond, _&&_}
 use mathlib.Core.List.{List, [], _∷_, map}
@@ -11,7 +12,7 @@ use lib.IntN.{ℤ, pos, negsuc}
 use Rattle.rules.specs.Ranges.{one, tabulate}
 use Rattle.rules.specs.Levels.{Level, byte}
 use Rattle.rules.specs.Graphs.{Graph}
-use Rattle.rules.specs.Nodes.{Offsets, fromCheck, outgoingSum, fromVariable}
+use Rattle.rules.specs.Nodes.{Offsets, fromCheck, posterior, bitOf, outgoingSum, fromVariable}
 use Rattle.rules.specs.Sequence.{Scheme, signPreserving, levelAt, final, report}
 use Rattle.rules.specs.declared.Report.{Report}
 use Rattle.rules.specs.declared.Verdict.{Verdict}
@@ -32,6 +33,8 @@ pub data Trial : Type 0 where
   sums : Level → List Level → ℤ → Trial
   -- it sends this message (Nq 3)
   sends : Level → List Level → Level → Trial
+  -- a variable of this level that takes in these messages has this bit
+  decides : Level → List Level → Bool → Trial
   -- a check that takes in these messages sends these back
   answers : List Level → List Level → Trial
   -- the example's graph with these levels and this limit (Nq 3): verdict, iterations, unsatisfied checks, bits
@@ -58,6 +61,8 @@ trials =
     ∷ sends (plus 3) (plus 0 ∷ plus 0 ∷ []) (plus 3)
     ∷ sends (plus 3) (plus 0 ∷ minus 0 ∷ []) (plus 2)
     ∷ sends (plus 1) (plus 0 ∷ minus 0 ∷ []) (plus 1)
+    ∷ decides (minus 1) (plus 0 ∷ plus 0 ∷ []) true
+    ∷ decides (plus 1) (minus 0 ∷ minus 0 ∷ []) false
     ∷ answers (plus 0 ∷ minus 2 ∷ plus 3 ∷ []) (minus 2 ∷ plus 0 ∷ minus 0 ∷ [])
     ∷ runs (plus 2 ∷ minus 0 ∷ plus 1 ∷ []) 5 Codeword 1 0 (false ∷ false ∷ false ∷ [])
     ∷ runs (minus 2 ∷ plus 0 ∷ minus 1 ∷ []) 5 Codeword 1 0 (true ∷ true ∷ true ∷ [])
@@ -92,6 +97,7 @@ incoming l k = levelAt l (k - 1)
 unfoldable pub passes : Trial → Bool
 passes (sums y l U) = sameSum (outgoingSum (star (suc (length l))) (λ v. y) (incoming l) 0) U
 passes (sends y l m) = eqb (byte (fromVariable (star (suc (length l))) 3 offsets (λ v. y) (incoming l) 0)) (byte m)
+passes (decides y l b) = eqb (one (bitOf (posterior (star (length l)) (λ v. y) (levelAt l) 0) (y .minus))) (one b)
 passes (answers q C) = sameList (tabulate (λ e. byte (fromCheck (fan (length q)) (levelAt q) e)) (length q)) (map byte C)
 passes (runs y limit verdict t u b) =
     let R : Scheme = signPreserving example 3 offsets (levelAt y) in

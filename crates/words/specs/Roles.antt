@@ -1,10 +1,14 @@
--- The lists of document 01 by their roles: starts and columns are u16, sums i32, values f32.
+-- The lists of document 01 by their roles: starts and columns are u16, sums i32, values f32, bits bytes.
+use mathlib.Core.Bool.{Bool}
 use mathlib.Core.List.{List}
-use Prim.Native.Nat.{ℕ, _*_}
+use Prim.Native.Nat.{ℕ, _-_, _*_, _/_}
+use lib.Dec.{eqb}
 use lib.IntN.{ℤ}
 use lib.Ieee.{Float, binary32, ofBits}
+use lib.ListN.{length, getD}
 use mir.Syntax.{w32}
 use mir.Val.{toZ, ofZ}
+use Rattle.rules.specs.Graphs.{Graph}
 use Rattle.words.specs.Words.{word, table}
 
 -- 'Two u16 lists hold the graph': row start i, and the column of entry e.
@@ -13,6 +17,20 @@ startAt starts i = word 2 starts (2 * i)
 
 abbrev pub columnAt : List ℕ → ℕ → ℕ
 columnAt columns e = word 2 columns (2 * e)
+
+-- The graph that two byte lists hold, admitted or not. No starts make no checks, which counts as a bad m.
+abbrev pub graphOf : ℕ → List ℕ → List ℕ → Graph
+graphOf n starts columns = record {
+  variables = n;
+  checks = length starts / 2 - 1;
+  entries = length columns / 2;
+  start = startAt starts;
+  column = columnAt columns;
+}
+
+-- The bit of variable v, of a list of bits in bytes: 1 is true.
+abbrev pub bitOfByte : List ℕ → ℕ → Bool
+bitOfByte bits v = eqb (getD bits v 0) 1
 
 -- 'Posterior sum, kept in halves as an i32'.
 abbrev pub sumAt : List ℕ → ℕ → ℤ

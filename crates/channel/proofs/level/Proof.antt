@@ -1,4 +1,5 @@
-use mathlib.Core.Path.{ap, _∙_}
+use mathlib.Core.Path.{ap₂, _∙_}
+use Prim.Native.Nat.{min}
 use native.Mathlib.Omega.{arith}
 use lib.Ieee.{binary32, mul}
 use Rattle.channel.specs.Quantiser.{wholesBelow}
@@ -10,6 +11,9 @@ use Rattle.channel.proofs.level.Tie as tie
 size-of-requires : tie.Need-size-of-requires
 size-of-requires c κs = search needs
 
+in-byte-requires : tie.Need-in-byte-requires
+in-byte-requires c κs = search needs
+
 wholes-below-requires : tie.Need-wholes-below-requires
 wholes-below-requires c κs = search needs
 
@@ -17,13 +21,21 @@ sign-of-requires : tie.Need-sign-of-requires
 sign-of-requires c κs = search needs
 
 add-result : tie.Need-add-result
-add-result c = omega (arith, c .sign-of .ensures, sign-part (c .before .before .before .args .y), c .before .wholes-below .ensures .1)
+add-result c = omega (arith, c .sign-of .ensures, sign-part (c .before .before .before .before .args .y), c .before .wholes-below .ensures .1, c .before .before .in-byte .ensures)
 
 returns : tie.Need-returns
 returns c =
-    let a = c .before .before .before .args in
-    level-byte (a .most) (a .factor) (a .y) (c .before .wholes-below .ensures .0 ∙ ap (λ x. wholesBelow (a .most) (mul binary32 (a .factor) x)) (c .before .before .size-of .ensures)) (c .sign-of .ensures)
+    let a = c .before .before .before .before .args in
+    level-byte (min (a .most) 127) (a .factor) (a .y)
+    (c .before .wholes-below .ensures .0 ∙ ap₂ (λ N x. wholesBelow N (mul binary32 (a .factor) x)) (c .before .before .in-byte .ensures) (c .before .before .before .size-of .ensures)) (c .sign-of .ensures)
 
 pub level-spec : {M : Type 1} → statement M
 level-spec =
-    tie.close (tie.spec size-of-requires wholes-below-requires sign-of-requires add-result returns)
+    tie.close
+    (tie.spec
+    size-of-requires
+    in-byte-requires
+    wholes-below-requires
+    sign-of-requires
+    add-result
+    returns)

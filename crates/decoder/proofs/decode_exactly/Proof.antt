@@ -1,10 +1,11 @@
 use mathlib.Core.Path.{ap, _∙_}
 use native.Mathlib.Omega.{arith}
 use Prim.Native.Nat.{ℕ}
-use lib.ListN.{getD-replicate, length-replicate}
+use lib.ListN.{getD, getD-replicate, length-replicate}
 use Rattle.rules.specs.Ranges.{tabulate}
 use Rattle.rules.specs.Levels.{byte}
-use Rattle.graph.specs.Judging.{graphOf}
+use Rattle.words.specs.Roles.{graphOf}
+use Rattle.graph.proofs.Loops.{tallied-degree}
 use Rattle.channel.proofs.Magnitudes.{largest-within}
 use Rattle.decoder.specs.Steps.{offsetsIn, levelsUnder}
 use Rattle.decoder.proofs.Beginning.{begins-as, begun-length, begun-holds, begun-levels, ready-sized, runs-same}
@@ -16,9 +17,7 @@ slice-aggregate-count-degrees : tie.Need-slice-aggregate-count-degrees
 slice-aggregate-count-degrees c = search needs
 
 count-degrees-requires : tie.Need-count-degrees-requires
-count-degrees-requires c κs =
-    let ok = c .before .before .before .before .before .before .before .before .before .pre .0 .admitted in
-    (ok .entries, ((λ e l. omega (arith, ok .within e l, ok .variables)), λ v l. getD-replicate 8192 v 0 0 l))
+count-degrees-requires c κs = search needs
 
 largest-requires : tie.Need-largest-requires
 largest-requires c κs = search needs
@@ -50,7 +49,7 @@ run-requires c κs =
     let w = begins-as (c .before .before .before .before .before .before .before .before .before .before .before .before .before .before .before .before .before .before .before .before .before .before .before .largest .ensures) (c .before .before .before .before .before .before .before .before .before .before .before .before .before .before .before .before .before .before .before .before .before .before .largest2 .ensures) (c .before .before .before .before .before .before .before .before .before .before .before .before .before .before .before .before .begin .ensures) in (
       (
         z .settings,
-        ready-sized (a .n) (a .starts .now) (a .columns .now) (z .admitted) (c .before .before .before .before .before .before .before .before .before .before .before .before .before .before .before .before .before .before .before .before .before .before .before .before .before .count-degrees .kept .1 .0 ∙ length-replicate {A = ℕ} 8192 0) (λ v l. c .before .before .before .before .before .before .before .before .before .before .before .before .before .before .before .before .before .before .before .before .before .before .before .before .before .count-degrees .ensures v l)
+        ready-sized (a .n) (a .starts .now) (a .columns .now) (z .admitted) (c .before .before .before .before .before .before .before .before .before .before .before .before .before .before .before .before .before .before .before .before .before .before .before .before .before .count-degrees .kept .1 .0 ∙ length-replicate {A = ℕ} 8192 0) (λ v l. ap (λ l. getD l v 0) (c .before .before .before .before .before .before .before .before .before .before .before .before .before .before .before .before .before .before .before .before .before .before .before .before .before .count-degrees .ensures) ∙ tallied-degree _ _ _ v (omega (arith, z .admitted .entries)) l (getD-replicate 8192 v 0 0 l))
             (begun-length (a .n) (a .starts .now) (a .columns .now) _ (offsetsIn (a .s)) w (z .count))
             (c .before .before .before .before .before .before .before .before .before .before .before .before .before .before .before .before .begin .kept .1 .1 .1 .1 .1 .1 .0 ∙ c .before .before .before .before .before .before .before .before .before .before .before .before .before .before .before .before .before .before .before .before .before .before .before .before .before .before .before .before .before .before .before .before .before .before .before .pre .1 .1) (c .before .before .before .before .before .before .before .before .before .before .before .before .before .before .before .before .begin .kept .1 .1 .1 .1 .1 .1 .1 .0 ∙ c .before .before .before .before .before .before .before .before .before .before .before .before .before .before .before .before .before .before .before .before .before .before .before .before .before .before .before .before .before .before .before .before .before .before .before .pre .1 .2) (c .before .before .before .before .before .before .before .before .before .before .before .before .before .before .before .before .begin .kept .1 .1 .1 .1 .1 .1 .1 .1 .0 ∙ c .before .before .before .before .before .before .before .before .before .before .before .before .before .before .before .before .before .before .before .before .before .before .before .before .before .before .before .before .before .before .before .before .before .before .before .pre .1 .3) (c .before .before .before .before .before .before .before .before .before .before .before .before .before .before .before .before .begin .kept .1 .1 .1 .1 .1 .1 .1 .1 .1 .0 ∙ c .before .before .before .before .before .before .before .before .before .before .before .before .before .before .before .before .before .before .before .before .before .before .before .before .before .before .before .before .before .before .before .before .before .before .before .pre .1 .4),
       ),

@@ -2,7 +2,8 @@ use mathlib.Core.Path.{_≡_, sym, _∙_}
 use borrow.Author.Needs.{needs}
 use Rattle.rules.specs.Graphs.{Graph}
 use Rattle.rules.specs.declared.Judged.the-variants as Judgement
-use Rattle.graph.specs.Judging.{graphOf, countsJudged, startsJudged, columnsJudged, rowsJudged, checkDegreesJudged, graphJudged}
+use Rattle.graph.specs.Judging.{countsJudged, startsJudged, columnsJudged, rowsJudged, checkDegreesJudged, graphJudged}
+use Rattle.words.specs.Roles.{graphOf}
 use Rattle.graph.proofs.check.Statement.{statement}
 use Rattle.graph.proofs.check.Tie as tie
 

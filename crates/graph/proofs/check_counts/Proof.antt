@@ -3,7 +3,8 @@ use mathlib.Core.Bool.{true}
 use borrow.Author.Needs.{needs}
 use borrow.Author.Tests.{le-leb, lt-leb, not-true, not-false}
 use Rattle.rules.specs.Graphs.{Graph}
-use Rattle.graph.specs.Judging.{graphOf, between, countsJudged}
+use Rattle.graph.specs.Judging.{between, countsJudged}
+use Rattle.words.specs.Roles.{graphOf}
 use Rattle.graph.proofs.check_counts.Statement.{statement}
 use Rattle.graph.proofs.check_counts.Tie as tie
 

@@ -7,8 +7,8 @@ use borrow.Author.Tests.{not-true, not-false}
 use Rattle.rules.specs.Graphs.{Graph, checkDegree}
 use Rattle.rules.specs.declared.Refusal.the-variants.{Degree}
 use Rattle.rules.proofs.Judging.{Passed, passed-none, passed-more, passed-all, failed-at}
-use Rattle.words.specs.Roles.{startAt}
-use Rattle.graph.specs.Judging.{graphOf, between, checkDegreesJudged}
+use Rattle.words.specs.Roles.{startAt, graphOf}
+use Rattle.graph.specs.Judging.{between, checkDegreesJudged}
 use Rattle.graph.proofs.Parts.{starts-told}
 use Rattle.graph.proofs.Loops.{degree-test}
 use Rattle.graph.proofs.check_degrees.Statement.{statement}

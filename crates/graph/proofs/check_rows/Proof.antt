@@ -6,7 +6,8 @@ use Rattle.rules.specs.Refusals.{each}
 use Rattle.rules.specs.Graphs.{Graph}
 use Rattle.rules.specs.declared.Judged.the-variants as Judgement
 use Rattle.rules.proofs.Judging.{each-none, each-more, each-at}
-use Rattle.graph.specs.Judging.{graphOf, rowsJudged}
+use Rattle.graph.specs.Judging.{rowsJudged}
+use Rattle.words.specs.Roles.{graphOf}
 use Rattle.graph.proofs.Parts.{rowJudged, row-ends, starts-told}
 use Rattle.graph.proofs.Loops.{row-test}
 use Rattle.graph.proofs.check_rows.Statement.{statement}

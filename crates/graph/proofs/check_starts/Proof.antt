@@ -8,8 +8,8 @@ use Rattle.rules.specs.Ranges.{count}
 use Rattle.rules.specs.Graphs.{Graph}
 use Rattle.rules.specs.declared.Refusal.the-variants.{Start}
 use Rattle.rules.proofs.Judging.{Passed, passed-none, passed-more, passed-all, failed-at}
-use Rattle.words.specs.Roles.{startAt}
-use Rattle.graph.specs.Judging.{graphOf, startsJudged}
+use Rattle.words.specs.Roles.{startAt, graphOf}
+use Rattle.graph.specs.Judging.{startsJudged}
 use Rattle.graph.proofs.Parts.{startTest, counts-told}
 use Rattle.graph.proofs.Loops.{start-test}
 use Rattle.graph.proofs.check_starts.Statement.{statement}

@@ -5,7 +5,8 @@ use borrow.Author.Tests.{eq-eqb, ne-eqb}
 use Rattle.rules.specs.Graphs.{Graph}
 use Rattle.rules.specs.declared.Judged.the-variants as Judgement
 use Rattle.graph.specs.declared.OddChecks.the-variants as Answer
-use Rattle.graph.specs.Judging.{graphOf, graphJudged}
+use Rattle.graph.specs.Judging.{graphJudged}
+use Rattle.words.specs.Roles.{graphOf}
 use Rattle.graph.specs.Calls.{bitsJudged}
 use Rattle.graph.proofs.Meaning.{graph-admitted}
 use Rattle.graph.proofs.count_odd.Statement.{statement}

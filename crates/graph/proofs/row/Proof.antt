@@ -4,9 +4,10 @@ use native.Mathlib.Omega.{arith}
 use borrow.Author.Needs.{needs}
 use Rattle.rules.specs.Graphs.{Graph, Admitted}
 use Rattle.rules.specs.declared.Judged.the-variants as Judgement
-use Rattle.graph.specs.Judging.{graphOf}
+use Rattle.words.specs.Roles.{graphOf}
 use Rattle.graph.specs.Calls.{rowJudgement}
-use Rattle.graph.proofs.Meaning.{admitted-row, row-admitted}
+use Rattle.rules.proofs.Rows.{admitted-row}
+use Rattle.graph.proofs.Meaning.{row-admitted}
 use Rattle.graph.proofs.Loops.{part-is}
 use Rattle.graph.proofs.row.Statement.{statement}
 use Rattle.graph.proofs.row.Tie as tie

@@ -3,14 +3,17 @@ use Prim.Native.Nat.{_+_, _-_, _/_, _≤_, _<_}
 use native.Mathlib.Omega.{arith}
 use borrow.Author.Needs.{needs}
 use borrow.Author.Tests.{not-true, not-false}
-use lib.ListN.{length, getD-replicate}
+use lib.Dec.{eqb}
+use lib.ListN.{length, getD, getD-replicate}
+use Rattle.rules.specs.Ranges.{count}
 use Rattle.rules.specs.Graphs.{Graph, variableDegree}
 use Rattle.rules.specs.declared.Refusal.the-variants.{Degree}
 use Rattle.rules.specs.declared.Judged.the-variants as Judgement
 use Rattle.rules.proofs.Judging.{Passed, passed-none, passed-more, passed-all, failed-at}
-use Rattle.graph.specs.Judging.{graphOf, between, variableDegreesJudged}
+use Rattle.graph.specs.Judging.{between, variableDegreesJudged}
+use Rattle.words.specs.Roles.{columnAt, graphOf}
 use Rattle.graph.proofs.Parts.{counts-told, columns-told}
-use Rattle.graph.proofs.Loops.{variable-test, degree-few}
+use Rattle.graph.proofs.Loops.{variable-test, degree-few, tallied-degree}
 use Rattle.graph.proofs.variable_degrees.Statement.{statement}
 use Rattle.graph.proofs.variable_degrees.Tie as tie
 
@@ -29,12 +32,17 @@ G s = graphOf (s .args .n) (s .args .starts .now) (s .args .columns .now)
 small : (c : tie.In-loop Inv-loop μ-loop) → c .before .loop .v < 8192
 small c = omega (arith, counts-told _ (c .before .before .before .before .before .before .before .before .pre .0) .variables .1)
 
+-- place v of the array holds the degree of variable v
+degree : (c : tie.In-loop Inv-loop μ-loop)
+    → getD (c .before .before .before .count-degrees .last .1 .0) (c .before .loop .v) 0 ≡ count (λ e. eqb (columnAt (c .before .before .before .before .before .before .before .before .args .columns .now) e) (c .before .loop .v)) 0 (length (c .before .before .before .before .before .before .before .before .args .columns .now) / 2)
+degree c =
+    ap (λ l. getD l (c .before .loop .v) 0) (c .before .before .before .count-degrees .ensures)
+    ∙ tallied-degree _ _ _ (c .before .loop .v) (omega (arith, counts-told _ (c .before .before .before .before .before .before .before .before .pre .0) .entries)) (small c) (getD-replicate 8192 (c .before .loop .v) 0 0 (small c))
+
 -- what the call of in_range tells of variable v
 test : (c : tie.After-in-range Inv-loop μ-loop)
     → between 1 (variableDegree (G (c .before .before .before .before .before .before .before .before .before)) (c .before .before .loop .v)) 32 ≡ c .in-range .result
-test c =
-    variable-test (G (c .before .before .before .before .before .before .before .before .before)) (c .before .before .loop .v)
-    (c .before .before .before .before .count-degrees .ensures (c .before .before .loop .v) (small (c .before))) (c .in-range .ensures)
+test c = variable-test (G (c .before .before .before .before .before .before .before .before .before)) (c .before .before .loop .v) (degree (c .before)) (c .in-range .ensures)
 
 checks-requires : tie.Need-checks-requires Inv-loop μ-loop
 checks-requires c κs = search needs
@@ -43,13 +51,7 @@ slice-aggregate-count-degrees : tie.Need-slice-aggregate-count-degrees Inv-loop 
 slice-aggregate-count-degrees c = search needs
 
 count-degrees-requires : tie.Need-count-degrees-requires Inv-loop μ-loop
-count-degrees-requires c κs = (
-  counts-told _ (c .before .before .before .before .pre .0) .entries,
-  (
-    (λ e l. omega (arith, columns-told _ (c .before .before .before .before .pre .1) e l, counts-told _ (c .before .before .before .before .pre .0) .variables .1)),
-    λ v l. getD-replicate 8192 v 0 0 l,
-  ),
-)
+count-degrees-requires c κs = search needs
 
 loop-holds : tie.Need-loop-holds Inv-loop μ-loop
 loop-holds c = (search needs, passed-none)
@@ -62,12 +64,7 @@ array-read-in-range c = small c
 
 cast-in-range : tie.Need-cast-in-range Inv-loop μ-loop
 cast-in-range c =
-    omega (
-      arith,
-      degree-few (G (c .before .before .before .before .before .before .before .before)) (c .before .loop .v)
-          (c .before .before .before .count-degrees .ensures (c .before .loop .v) (small c)),
-      counts-told _ (c .before .before .before .before .before .before .before .before .pre .0) .entries,
-    )
+    omega (arith, degree-few (G (c .before .before .before .before .before .before .before .before)) (c .before .loop .v) (degree c), counts-told _ (c .before .before .before .before .before .before .before .before .pre .0) .entries)
 
 in-range-requires : tie.Need-in-range-requires Inv-loop μ-loop
 in-range-requires c κs = search needs

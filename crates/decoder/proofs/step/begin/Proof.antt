@@ -4,6 +4,7 @@ use native.Mathlib.Omega.{arith}
 use lib.ListN.{length}
 use Rattle.rules.specs.Ranges.{tabulate}
 use borrow.Author.Needs.{needs}
+use Rattle.channel.proofs.Magnitudes.{quantised-all}
 use Rattle.decoder.proofs.step.begin.Statement.{statement}
 use Rattle.decoder.proofs.step.begin.Tie as tie
 
@@ -41,7 +42,7 @@ returns : tie.Need-returns
 returns c =
     let h : length (c .before .before .before .before .before .before .before .before .before .before .before .before .before .before .before .before .before .before .before .before .before .before .before .before .before .before .before .before .before .args .variable-messages .now) ≡ length (c .before .before .before .before .before .before .before .before .before .before .before .before .before .before .before .before .before .before .before .before .before .before .before .before .before .before .before .before .before .args .columns .now) / 2 = omega arith in
     record {
-      levels = c .before .before .before .before .before .before .before .before .before .before .before .before .before .before .before .before .before .before .before .before .quantise .ensures;
+      levels = c .before .before .before .before .before .before .before .before .before .before .before .before .before .before .before .before .before .before .before .before .quantise .ensures ∙ quantised-all (c .before .before .before .before .before .before .before .before .before .before .before .before .before .before .before .before .before .before .before .before .before .before .before .before .before .before .before .before .before .args .channel-most) (c .before .before .before .before .before .before .before .before .before .before .before .before .before .before .before .before .before .before .before .before .before .before .before .before .before .before .before .before .before .args .factor) (c .before .before .before .before .before .before .before .before .before .before .before .before .before .before .before .before .before .before .before .before .before .before .before .before .before .before .before .before .before .args .values .now) (c .before .before .before .before .before .before .before .before .before .before .before .before .before .before .before .before .before .before .before .before .before .before .before .before .before .before .before .before .before .args .levels .now) (omega arith) (omega arith);
       variableMessages = c .before .before .before .before .before .before .before .before .before .before .before .before .before .before .before .first-messages .ensures ∙ ap (tabulate _) h;
       checkMessages = c .before .before .before .before .before .before .before .before .before .before .before .clear .ensures;
       sums = c .before .before .before .before .before .before .before .clear2 .ensures;

@@ -5,11 +5,10 @@ use native.Mathlib.Omega.{arith}
 use borrow.Author.Needs.{needs}
 use Rattle.rules.specs.Ranges.{fold}
 use Rattle.rules.proofs.Ranges.{fold-none}
-use Rattle.words.specs.Roles.{columnAt}
-use Rattle.graph.specs.Calls.{bitOfByte}
-use Rattle.graph.proofs.Loops.{odd-more}
-use Rattle.graph.proofs.is_odd.Statement.{statement}
-use Rattle.graph.proofs.is_odd.Tie as tie
+use Rattle.words.specs.Roles.{columnAt, bitOfByte}
+use Rattle.syndrome.proofs.Loops.{odd-more}
+use Rattle.syndrome.proofs.is_odd.Statement.{statement}
+use Rattle.syndrome.proofs.is_odd.Tie as tie
 
 abbrev Inv-loop : tie.InvT-loop
 Inv-loop columns a b bits odd₀ k₀ odd k = (k ≤ b - a) × (odd ≡ fold xor false (λ e. bitOfByte bits (columnAt columns e)) a k)

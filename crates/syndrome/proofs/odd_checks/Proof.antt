@@ -4,12 +4,11 @@ use native.Mathlib.Omega.{arith}
 use borrow.Author.Needs.{needs}
 use mir.Val.{boolByte}
 use Rattle.rules.specs.Graphs.{Graph, unsatisfied, oddCheck}
-use Rattle.graph.specs.Judging.{graphOf}
-use Rattle.graph.specs.Calls.{bitOfByte}
-use Rattle.graph.proofs.Meaning.{admitted-row}
-use Rattle.graph.proofs.Loops.{odd-test, Counted, counted-none, counted-more, counted-le, counted-all}
-use Rattle.graph.proofs.odd_checks.Statement.{statement}
-use Rattle.graph.proofs.odd_checks.Tie as tie
+use Rattle.words.specs.Roles.{graphOf, bitOfByte}
+use Rattle.rules.proofs.Rows.{admitted-row}
+use Rattle.syndrome.proofs.Loops.{odd-test, Counted, counted-none, counted-more, counted-le, counted-all}
+use Rattle.syndrome.proofs.odd_checks.Statement.{statement}
+use Rattle.syndrome.proofs.odd_checks.Tie as tie
 
 abbrev Inv-loop : tie.InvT-loop
 Inv-loop n starts columns bits rows odd₀ i₀ odd i = (i ≤ rows) × Counted (oddCheck (graphOf n starts columns) (bitOfByte bits)) odd i
@@ -27,15 +26,15 @@ b s = bitOfByte (s .args .bits .now)
 
 -- check i counted too
 more : (c : tie.After-is-odd Inv-loop μ-loop)
-    → Counted (oddCheck (G (c .before .before .before .before .before .before .before .before .before)) (b (c .before .before .before .before .before .before .before .before .before)))
+    → Counted (oddCheck (G (c .before .before .before .before .before .before .before .before)) (b (c .before .before .before .before .before .before .before .before)))
     (c .before .before .before .before .loop .odd + boolByte (c .is-odd .result)) (c .before .before .before .before .loop .i + 1)
 more c =
     counted-more (c .before .before .before .before .loop .inv .1)
-    (odd-test (G (c .before .before .before .before .before .before .before .before .before)) (b (c .before .before .before .before .before .before .before .before .before))
+    (odd-test (G (c .before .before .before .before .before .before .before .before)) (b (c .before .before .before .before .before .before .before .before))
     (c .before .before .before .before .loop .i) _ _ (c .before .before .start .ensures .0) (c .before .start2 .ensures .0) (c .is-odd .ensures))
 
-checks-requires : tie.Need-checks-requires Inv-loop μ-loop
-checks-requires c κs = search needs
+sub-rows : tie.Need-sub-rows Inv-loop μ-loop
+sub-rows c = omega (arith, c .before .before .before .pre .0 .checks)
 
 loop-holds : tie.Need-loop-holds Inv-loop μ-loop
 loop-holds c = (search needs, counted-none)
@@ -53,10 +52,10 @@ is-odd-requires : tie.Need-is-odd-requires Inv-loop μ-loop
 is-odd-requires c κs = (
   omega (
     arith,
-    admitted-row _ (c .before .before .before .before .before .before .before .before .pre .0) (c .before .before .before .loop .i)
+    admitted-row _ (c .before .before .before .before .before .before .before .pre .0) (c .before .before .before .loop .i)
         (omega arith) (c .before .start .ensures .0) (c .start2 .ensures .0),
   ),
-  λ e l. omega (arith, c .before .before .before .before .before .before .before .before .pre .0 .within e l, c .before .before .before .before .before .before .before .before .pre .1),
+  λ e l. omega (arith, c .before .before .before .before .before .before .before .pre .0 .within e l, c .before .before .before .before .before .before .before .pre .1),
 )
 
 cast-odd : tie.Need-cast-odd Inv-loop μ-loop
@@ -84,7 +83,7 @@ odd-checks-spec =
     (tie.spec
     Inv-loop
     μ-loop
-    checks-requires
+    sub-rows
     loop-holds
     start-requires
     add-start
