@@ -1,14 +1,15 @@
 -- What the leaves of the code compute: signs, parities, and the tests on a sum.
 use mathlib.Core.Path.{_≡_, refl, sym, ap, _∙_, subst}
 use mathlib.Core.Bool.{Bool, true, false, not, cond, xor, Bool·beq}
-use Prim.Native.Nat.{ℕ, zero, suc, _+_, _*_, _-_, _/_, _%_, _≤_, _<_, min}
+use Prim.Native.Nat.{ℕ, zero, suc, _+_, _*_, _-_, _/_, _%_, _≤_, _<_}
 use native.Mathlib.Omega.{arith}
 use borrow.Author.Tests.{ltb-true, ltb-false, le-ltb, ne-eqb, leb-true, leb-false}
-use lib.Dec.{T, eqb, leb}
-use lib.IntN.{ℤ, pos, negsuc, natAbs}
+use lib.Dec.{T, leb}
+use lib.IntN.{ℤ, pos, negsuc}
 use lib.Signed.{ltZ}
+use mir.Val.{boolByte}
 use Rattle.rules.specs.Ranges.{one}
-use Rattle.rules.specs.Levels.{Level, levelOf}
+use Rattle.rules.specs.Levels.{levelOf}
 use Rattle.rules.specs.Nodes.{odd, extra, bitOf, negative}
 
 -- `a != b` of two bools
@@ -64,6 +65,25 @@ sign-of b h = go (leb 128 b) refl
     go : (t : Bool) → leb 128 b ≡ t → b / 128 ≡ one t
     go true p = omega (arith, leb-true 128 b p)
     go false p = omega (arith, leb-false 128 b p)
+
+-- a sign times the sign of a byte, as it stands in a byte
+pub sign-product : (m : Bool) (b : ℕ) → b < 256 → 128 * ((boolByte m + b / 128) % 2) ≡ cond (xor m (leb 128 b)) 128 0
+unfolding xor
+sign-product m b h = rw (sign-of b h) (go m (leb 128 b))
+  where
+    go : (m t : Bool) → 128 * ((boolByte m + one t) % 2) ≡ cond (xor m t) 128 0
+    go true true = refl
+    go true false = refl
+    go false true = refl
+    go false false = refl
+
+pub bool-small : (m : Bool) → boolByte m ≤ 1
+bool-small true = omega arith
+bool-small false = omega arith
+
+pub either-small : (t : Bool) (a b k : ℕ) → a ≤ k → b ≤ k → cond t a b ≤ k
+either-small true a b k h l = h
+either-small false a b k h l = l
 
 -- the size of a level in a byte
 pub magnitude-small : (b : ℕ) → levelOf b .magnitude ≤ 127

@@ -3,3 +3,4 @@ pub mod Leaves
 pub mod RowLaws
 pub mod SumLaws
 pub mod Table
+pub mod Outgoing

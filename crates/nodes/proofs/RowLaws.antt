@@ -1,121 +1,97 @@
 -- A check row: what one pass keeps gives what the check sends, and a row by itself is the row in its graph.
 use mathlib.Core.Path.{_≡_, refl, sym, ap, ap₂, _∙_, subst}
 use mathlib.Core.Bool.{Bool, true, false, cond, xor}
-use mathlib.Core.Logic.{_≢_, _⊎_, inl, inr}
 use mathlib.Core.List.{List}
-use Prim.Native.Nat.{ℕ, zero, suc, _+_, _-_, _/_, _≤_, _<_, min}
+use Prim.Native.Nat.{ℕ, suc, _+_, _-_, _/_, _≤_, _<_, min, max}
 use native.Mathlib.Decide.{ℕ-discrete}
 use native.Mathlib.Numerals.{add-one}
 use native.Mathlib.Omega.{arith}
-use borrow.Author.Count.{below-more}
-use borrow.Author.Tests.{ltb-true, ltb-false, eqb-true, eqb-false}
-use lib.Dec.{eqb, ltb}
-use lib.ListN.{length, getD, take, drop}
+use borrow.Author.Tests.{ltb-true, ltb-false}
+use lib.Dec.{ltb}
+use lib.ListN.{length, take, drop}
 use lib.Seq.{getD-take, getD-drop}
 use borrow.Rule.Slice.PartMut.{midOf, mid-len, putMid}
 use Rattle.rules.specs.Ranges.{fold, but, tabulate}
 use Rattle.rules.specs.Levels.{Level, levelOf, byte}
-use Rattle.rules.specs.Graphs.{Rowed, checkDegree}
+use Rattle.rules.specs.Graphs.{checkDegree}
 use Rattle.rules.specs.Nodes.{others, fromCheck}
-use Rattle.rules.proofs.Ranges.{fold-none, fold-next, fold-ext, fold-shift, fold-but, but-same, but-other, least-below, least-top, least-above, tabulate-ext}
+use Rattle.rules.proofs.Ranges.{fold-none, fold-next, fold-ext, fold-shift, fold-but, but-same, but-other, least-below, tabulate-ext}
 use Rattle.rules.proofs.Filling.{Filled, filled-part}
 use Rattle.rules.proofs.Rows.{row-is, starts-rise}
-use Rattle.rules.proofs.Signs.{xor-monoid, xor-self, xor-false, false-xor}
+use Rattle.rules.proofs.Signs.{xor-monoid, xor-self, xor-false}
 use Rattle.words.specs.Roles.{startAt}
 use Rattle.nodes.specs.Memory.{levelIn, onStarts}
 use Rattle.nodes.specs.Rows.{rowMessage, Kept, Rows}
 
--- one number is below the other, or not
-pub split : (m n : ℕ) → (m < n) ⊎ (n ≤ m)
-split m n = go (ltb m n) refl
-  where
-    go : (t : Bool) → ltb m n ≡ t → (m < n) ⊎ (n ≤ m)
-    go true e = inl (ltb-true m n e)
-    go false e = inr (ltb-false m n e)
-
 -- ---- one pass
 
-module _ (q : ℕ → Level) (small : (k : ℕ) → q k .magnitude ≤ 127) where
+-- what an entry gets that is the last so far, and what an earlier one of magnitude x gets, when the level of magnitude m comes in
+last-gets : (l s m : ℕ) → l ≤ s → cond (ltb (min l m) m) (min l m) (min s (max l m)) ≡ l
+last-gets l s m h = go (ltb (min l m) m) refl
+  where
+    go : (t : Bool) → ltb (min l m) m ≡ t → cond t (min l m) (min s (max l m)) ≡ l
+    go true e = omega (arith, ltb-true (min l m) m e)
+    go false e = omega (arith, ltb-false (min l m) m e)
+
+earlier-gets : (l s m x : ℕ) → l ≤ s → l ≤ x → cond (ltb (min l m) x) (min l m) (min s (max l m)) ≡ min (cond (ltb l x) l s) m
+earlier-gets l s m x h k = go (ltb (min l m) x) (ltb l x) refl refl
+  where
+    go : (t u : Bool) → ltb (min l m) x ≡ t → ltb l x ≡ u → cond t (min l m) (min s (max l m)) ≡ min (cond u l s) m
+    go true true e d = refl
+    go true false e d = omega (arith, ltb-true (min l m) x e, ltb-false l x d)
+    go false true e d = omega (arith, ltb-false (min l m) x e, ltb-true l x d)
+    go false false e d = omega (arith, ltb-false (min l m) x e, ltb-false l x d)
+
+module _ (q : ℕ → Level) where
   sign : ℕ → Bool
   sign k = q k .minus
 
   size : ℕ → ℕ
   size k = q k .magnitude
 
-  -- the least of all, at a place other than j, is the least of the others
-  other-least : (j p n : ℕ) → p < n → p ≢ j → ((k : ℕ) → k < n → size p ≤ size k) → fold min 127 (but 127 j size) 0 n ≡ size p
-  unfolding size
-  other-least j p n h d b =
-      omega (
-        arith,
-        least-below (but 127 j size) 127 0 n p (omega arith) (omega arith),
-        but-other 127 j size p d,
-        least-above (but 127 j size) 127 0 (size p) n (small p) (λ k _ u. each k (omega arith) (ℕ-discrete k j)),
-      )
-    where
-      each : (k : ℕ) → k < n → Dec (k ≡ j) → size p ≤ but 127 j size k
-      each k u (yes e) = rw (e, but-same 127 j size) (small p)
-      each k u (no e) = rw (but-other 127 j size k e) (b k u)
-
-  pub kept-one : Kept q 1 (q 0 .minus) (q 0 .magnitude) 127 0
+  pub kept-none : Kept q 0 false 127 127
   unfolding sign size
-  kept-one = record {
-    signs = sym (fold-next xor false sign 0 ∙ ap (λ b. xor b (sign 0)) (fold-none xor false sign 0) ∙ false-xor (sign 0));
-    inside = omega arith;
-    lowest = refl;
-    below = λ k h. rw (only k h) (omega arith);
-    next = sym (fold-next min 127 (but 127 0 size) 0 ∙ ap₂ min (fold-none min 127 (but 127 0 size) 0) (but-same 127 0 size));
+  kept-none = record {
+    signs = sym (fold-none xor false sign 0);
+    lowest = sym (fold-none min 127 size 0);
+    order = omega arith;
+    rest = λ j h. absurd (omega arith);
   }
-    where
-      only : (k : ℕ) → k < 1 → k ≡ 0
-      only k h = omega arith
 
-  module _ {n : ℕ} {minus minus′ : Bool} {least second place : ℕ} (kept : Kept q n minus least second place) (signs′ : minus′ ≡ xor minus (q n .minus)) where
-    signs-now : minus′ ≡ fold xor false sign 0 (n + 1)
-    unfolding sign
-    signs-now = signs′ ∙ ap (λ b. xor b (q n .minus)) (kept .signs) ∙ sym (fold-next xor false sign n)
+  module _ {n : ℕ} {minus : Bool} {least second : ℕ} (kept : Kept q n minus least second) where
+    below : (j : ℕ) → j < n → least ≤ size j
+    unfolding size
+    below j h = omega (arith, kept .lowest, least-below size 127 0 n j (omega arith) (omega arith))
 
-    -- a new least
-    pub kept-lower : {least′ second′ place′ : ℕ} → q n .magnitude < least → (least′ ≡ q n .magnitude) × (second′ ≡ least) × (place′ ≡ n)
-        → Kept q (n + 1) minus′ least′ second′ place′
+    -- the least of the others of the entry that comes in is the least of all before it
+    others-last : fold min 127 (but 127 n size) 0 (n + 1) ≡ least
+    unfolding size
+    others-last =
+        fold-next min 127 (but 127 n size) n
+        ∙ ap₂ min (fold-ext min 127 (but 127 n size) size 0 n (λ k _ h. but-other 127 n size k (omega arith)) ∙ sym (kept .lowest)) (but-same 127 n size)
+        ∙ omega (arith, kept .order)
+
+    pub kept-more : {minus′ : Bool} {least′ second′ : ℕ} → minus′ ≡ xor minus (q n .minus) → least′ ≡ min least (q n .magnitude) → second′ ≡ min second (max least (q n .magnitude))
+        → Kept q (n + 1) minus′ least′ second′
     unfolding sign size
-    kept-lower {least′} {second′} {place′} h (p, r, s) = rw (p, r, s) (record {
-      signs = signs-now;
-      inside = omega arith;
-      lowest = refl;
-      below = below-more (λ (k : ℕ). size n ≤ size k) n (λ k l. omega (arith, kept .below k l)) (omega arith);
-      next = sym (fold-next min 127 (but 127 n size) n ∙ ap₂ min others-now (but-same 127 n size) ∙ omega (arith, kept .lowest, small place));
+    kept-more {minus′} {least′} {second′} p r s = rw (p, r, s) (record {
+      signs = ap (λ b. xor b (sign n)) (kept .signs) ∙ sym (fold-next xor false sign n);
+      lowest = ap (λ k. min k (size n)) (kept .lowest) ∙ sym (fold-next min 127 size n);
+      order = omega (arith, kept .order);
+      rest = λ j h. each j h (ℕ-discrete j n);
     })
       where
-        others-now : fold min 127 (but 127 n size) 0 n ≡ least
-        others-now = other-least n place n (kept .inside) (omega (arith, kept .inside)) (λ k l. omega (arith, kept .below k l, kept .lowest)) ∙ sym (kept .lowest)
+        each : (j : ℕ) → j < n + 1 → Dec (j ≡ n)
+            → cond (ltb (min least (size n)) (size j)) (min least (size n)) (min second (max least (size n))) ≡ fold min 127 (but 127 j size) 0 (n + 1)
+        each j h (yes e) = rw e (last-gets least second (size n) (kept .order .0) ∙ sym others-last)
+        each j h (no e) =
+            earlier-gets least second (size n) (size j) (kept .order .0) (below j (omega arith))
+            ∙ ap₂ min (kept .rest j (omega arith)) (sym (but-other 127 j size n (omega arith))) ∙ sym (fold-next min 127 (but 127 j size) n)
 
-    -- the least stays
-    pub kept-higher : {least′ second′ place′ : ℕ} → least ≤ q n .magnitude → (least′ ≡ least) × (second′ ≡ min second (q n .magnitude)) × (place′ ≡ place)
-        → Kept q (n + 1) minus′ least′ second′ place′
-    unfolding sign size
-    kept-higher {least′} {second′} {place′} h (p, r, s) = rw (p, r, s) (record {
-      signs = signs-now;
-      inside = omega (arith, kept .inside);
-      lowest = kept .lowest;
-      below = below-more (λ (k : ℕ). least ≤ size k) n (kept .below) h;
-      next = ap₂ min (kept .next) (sym (but-other 127 place size n (omega (arith, kept .inside)))) ∙ sym (fold-next min 127 (but 127 place size) n);
-    })
+    -- ---- what the check sends
 
-  -- ---- what the check sends
-
-  module _ {n : ℕ} {minus : Bool} {least second place : ℕ} (kept : Kept q n minus least second place) where
     pub kept-small : (least ≤ 127) × (second ≤ 127)
-    unfolding size
-    kept-small = (omega (arith, kept .lowest, small place), omega (arith, kept .next, least-top (but 127 place size) 127 0 n))
-
-    least-to : (j : ℕ) → cond (eqb j place) second least ≡ fold min 127 (but 127 j size) 0 n
-    unfolding size
-    least-to j = go (eqb j place) refl
-      where
-        go : (t : Bool) → eqb j place ≡ t → cond t second least ≡ fold min 127 (but 127 j size) 0 n
-        go true e = kept .next ∙ ap (λ (p : ℕ). fold min 127 (but 127 p size) 0 n) (sym (eqb-true j place e))
-        go false e = kept .lowest ∙ sym (other-least j place n (kept .inside) (λ p. eqb-false j place e (sym p)) (λ k l. omega (arith, kept .below k l, kept .lowest)))
+    kept-small = omega (arith, kept .order)
 
     sign-to : (j : ℕ) → j < n → xor minus (q j .minus) ≡ fold xor false (but false j sign) 0 n
     unfolding sign
@@ -124,9 +100,9 @@ module _ (q : ℕ → Level) (small : (k : ℕ) → q k .magnitude ≤ 127) wher
         ∙ xor-monoid .assoc (fold xor false (but false j sign) 0 n) (sign j) (sign j)
         ∙ ap (xor (fold xor false (but false j sign) 0 n)) (xor-self (sign j)) ∙ xor-false (fold xor false (but false j sign) 0 n)
 
-    pub kept-sends : (j : ℕ) → j < n → cond (eqb j place) second least + cond (xor minus (q j .minus)) 128 0 ≡ byte (rowMessage q n j)
+    pub kept-sends : (j : ℕ) → j < n → cond (ltb least (q j .magnitude)) least second + cond (xor minus (q j .minus)) 128 0 ≡ byte (rowMessage q n j)
     unfolding byte rowMessage sign size
-    kept-sends j h = ap₂ (λ (m : ℕ) b. m + cond b 128 0) (least-to j) (sign-to j h)
+    kept-sends j h = ap₂ (λ (m : ℕ) b. m + cond b 128 0) (kept .rest j h) (sign-to j h)
 
 -- ---- a row in its graph
 

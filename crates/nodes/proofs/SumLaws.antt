@@ -12,10 +12,10 @@ use lib.IntN.{ℤ, pos, natAbs, _+ℤ_, +ℤ-assoc, +ℤ-idr}
 use lib.ListN.{length, getD, take, drop, take-append-drop}
 use mir.Syntax.{w32}
 use mir.Val.{ofZ}
-use Rattle.rules.specs.Ranges.{fold}
+use Rattle.rules.specs.Ranges.{fold, tabulate}
 use Rattle.rules.specs.Levels.{levelOf}
 use Rattle.rules.specs.Nodes.{contribution, share}
-use Rattle.rules.proofs.Ranges.{fold-none, fold-next}
+use Rattle.rules.proofs.Ranges.{fold-none, fold-next, getD-tabulate}
 use Rattle.rules.proofs.Bounds.{abs-sum, abs-contribution}
 use Rattle.words.specs.Words.{stored}
 use Rattle.words.specs.Roles.{columnAt, sumAt, sumTable}
@@ -28,6 +28,10 @@ use Rattle.nodes.proofs.Signed.{fits-abs}
 -- a level byte's contribution, with e at most 1, is at most 255
 pub contribution-small : (b : ℕ) → natAbs (contribution 1 (levelOf b)) ≤ 255
 contribution-small b = omega (arith, abs-contribution 1 (levelOf b), magnitude-small b)
+
+-- one contribution of the list of all
+pub part-at : {parts : List ℤ} {b : ℕ} → parts ≡ tabulate (λ k. contribution 1 (levelOf k)) 256 → b < 256 → getD parts b (pos 0) ≡ contribution 1 (levelOf b)
+part-at {parts} {b} e h = ap (λ l. getD l b (pos 0)) e ∙ getD-tabulate (λ k. contribution 1 (levelOf k)) 256 b (pos 0) h
 
 module _ (columns messages old : List ℕ) where
   -- the sum of variable v with the first e messages added

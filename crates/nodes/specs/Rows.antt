@@ -1,8 +1,9 @@
 -- One row of a check node by itself: its entries are numbered from 0.
 use mathlib.Core.Path.{_≡_}
-use mathlib.Core.Bool.{Bool, false, xor}
+use mathlib.Core.Bool.{Bool, false, cond, xor}
 use mathlib.Core.List.{List}
 use Prim.Native.Nat.{ℕ, _/_, _≤_, _<_, min}
+use lib.Dec.{ltb}
 use lib.ListN.{length}
 use Rattle.rules.specs.Ranges.{fold, but}
 use Rattle.rules.specs.Levels.{Level}
@@ -16,13 +17,13 @@ rowMessage q d j = record {
   magnitude = fold min 127 (but 127 j (λ k. q k .magnitude)) 0 d;
 }
 
--- What one pass over n levels keeps: the product of all signs, the least magnitude and a place of it, and the least of the others.
-pub record Kept (q : ℕ → Level) (n : ℕ) (minus : Bool) (least second place : ℕ) : Type 0 where
+-- What one pass over n levels keeps: the product of all signs, the least magnitude, and the least once a level that has it is left out.
+pub record Kept (q : ℕ → Level) (n : ℕ) (minus : Bool) (least second : ℕ) : Type 0 where
   pub signs : minus ≡ fold xor false (λ k. q k .minus) 0 n
-  pub inside : place < n
-  pub lowest : least ≡ q place .magnitude
-  pub below : (k : ℕ) → k < n → least ≤ q k .magnitude
-  pub next : second ≡ fold min 127 (but 127 place (λ k. q k .magnitude)) 0 n
+  pub lowest : least ≡ fold min 127 (λ k. q k .magnitude) 0 n
+  pub order : (least ≤ second) × (second ≤ 127)
+  -- the least of the others of j: the second where j itself has the least
+  pub rest : (j : ℕ) → j < n → cond (ltb least (q j .magnitude)) least second ≡ fold min 127 (but 127 j (λ k. q k .magnitude)) 0 n
 
 -- Starts that make rows of at least two entries each, E entries in all.
 pub record Rows (starts : List ℕ) (E : ℕ) : Type 0 where

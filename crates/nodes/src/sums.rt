@@ -38,6 +38,19 @@ pub fn channel_parts(levels: &[u8], degrees: &[u16], sums: &mut [u8])
     }
 }
 
+// The contribution of every message, by its byte.
+pub fn contributions() -> [i32; 256]
+    ensures { λ r. ⌜ r ≡ tabulate (λ b. Nodes.contribution 1 (levelOf b)) 256 ⌝ }
+{
+    let mut parts = [0i32; 256];
+    let mut b: usize = 0;
+    while b < 256 {
+        parts[b] = contribution(b as u8, 1);
+        b += 1;
+    }
+    parts
+}
+
 // Adds the contribution of each entry's message to the sum of its variable.
 pub fn add_messages(columns: &[u8], messages: &[u8], sums: &mut [u8])
     requires { ⌜ (length (now messages) ≡ length (now columns) / 2) × (length (now messages) ≤ 4000000) ⌝ }
@@ -45,10 +58,11 @@ pub fn add_messages(columns: &[u8], messages: &[u8], sums: &mut [u8])
     requires { ⌜ ((v : ℕ) → v < length (now sums) / 4 → natAbs (sumAt (now sums) v) ≤ 1024) ⌝ }
     ensures { λ _. ⌜ now (sums .exit) ≡ sumTable (λ v. sumAt (now (sums .entry)) v +ℤ fold _+ℤ_ (pos 0) (Nodes.share (onColumns (now (columns .entry))) (levelIn (now (messages .entry))) v) 0 (length (now (messages .entry)))) (length (now (sums .entry)) / 4) ++ drop (4 * (length (now (sums .entry)) / 4)) (now (sums .entry)) ⌝ }
 {
+    let parts = contributions();
     let mut e = 0;
     while e < messages.len() {
         let v = words::column(columns, e);
-        words::put_sum(sums, v, words::sum(sums, v) + contribution(messages[e], 1));
+        words::put_sum(sums, v, words::sum(sums, v) + parts[messages[e] as usize]);
         e += 1;
     }
 }

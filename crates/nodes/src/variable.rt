@@ -1,10 +1,11 @@
 // Variable to check: each variable sends its sum without the recipient's own part, clipped and offset.
 ghost use mathlib.Core.Path.{_≡_};
+ghost use mathlib.Core.List.{List};
 ghost use Prim.Native.Nat.{ℕ, _-_, _/_, _<_, _≤_, _^_};
 ghost use lib.ListN.{length, getD};
-ghost use lib.IntN.{natAbs, _-ℤ_};
+ghost use lib.IntN.{pos, natAbs, _-ℤ_};
 ghost use Rattle.rules.specs.Ranges.{tabulate};
-ghost use Rattle.rules.specs.Levels.{byte, levelOf, largest};
+ghost use Rattle.rules.specs.Levels.{byte, largest};
 ghost use Rattle.rules.specs.Nodes.{contribution, outgoingMagnitude};
 ghost use Rattle.words.specs.Roles.{columnAt, sumAt};
 ghost use Rattle.nodes.specs.Memory.{levelIn};
@@ -65,18 +66,46 @@ fn half(n: usize) -> usize
     if n == 0 { 0 } else { (n - 1) / 2 }
 }
 
-// What a variable with this sum sends where it got the level b.
-fn variable_message(sum: i32, b: u8, nine: &[u8]) -> u8
-    requires { ⌜ (natAbs sum < 2 ^ 30) × (length (now nine) ≡ 9) ⌝ }
+// The message of the outgoing sum u.
+fn outgoing_message(u: i32, nine: &[u8]) -> u8
+    requires { ⌜ (natAbs u < 2 ^ 31) × (length (now nine) ≡ 9) ⌝ }
     requires { ⌜ ((k : ℕ) → getD (now nine) k 0 < 128) ⌝ }
-    ensures { λ r. ⌜ r ≡ byte (outgoingBy (now (nine .entry)) (sum -ℤ contribution 1 (levelOf b))) ⌝ }
+    ensures { λ r. ⌜ r ≡ byte (outgoingBy (now (nine .entry)) u) ⌝ }
 {
-    let u = sum - crate::sums::contribution(b, 1);
     let f = half(size_of(u));
     if f < 8 {
         crate::check::byte_of(u < 0, nine[f])
     } else {
         crate::check::byte_of(u < 0, nine[8])
+    }
+}
+
+// The messages of the outgoing sums from -17 to 17: at both ends F is 8, and beyond them larger.
+fn outgoing_messages(nine: &[u8]) -> [u8; 35]
+    requires { ⌜ length (now nine) ≡ 9 ⌝ }
+    requires { ⌜ ((k : ℕ) → getD (now nine) k 0 < 128) ⌝ }
+    ensures { λ r. ⌜ r ≡ tabulate (λ k. byte (outgoingBy (now (nine .entry)) (pos k -ℤ pos 17))) 35 ⌝ }
+{
+    let mut messages = [0u8; 35];
+    let mut k: usize = 0;
+    while k < 35 {
+        messages[k] = outgoing_message(k as i32 - 17, nine);
+        k += 1;
+    }
+    messages
+}
+
+// The place in that list of the message of the outgoing sum u.
+fn place(u: i32) -> usize
+    requires { ⌜ natAbs u < 2 ^ 31 ⌝ }
+    ensures { λ r. ⌜ (r < 35) × ((nine : List ℕ) → outgoingBy nine (pos r -ℤ pos 17) ≡ outgoingBy nine u) ⌝ }
+{
+    if u < -17 {
+        0
+    } else if 17 < u {
+        34
+    } else {
+        (u + 17) as usize
     }
 }
 
@@ -94,10 +123,12 @@ pub fn variable_nodes(
     requires { ⌜ ((v : ℕ) → v < length (now sums) / 4 → natAbs (sumAt (now sums) v) < 2 ^ 30) ⌝ }
     ensures { λ _. ⌜ now (outgoing .exit) ≡ tabulate (λ e. byte (outgoingBy (now (nine .entry)) (sumAt (now (sums .entry)) (columnAt (now (columns .entry)) e) -ℤ contribution 1 (levelIn (now (incoming .entry)) e)))) (length (now (incoming .entry))) ⌝ }
 {
+    let parts = crate::sums::contributions();
+    let messages = outgoing_messages(nine);
     let mut e = 0;
     while e < incoming.len() {
         let v = words::column(columns, e);
-        outgoing[e] = variable_message(words::sum(sums, v), incoming[e], nine);
+        outgoing[e] = messages[place(words::sum(sums, v) - parts[incoming[e] as usize])];
         e += 1;
     }
 }

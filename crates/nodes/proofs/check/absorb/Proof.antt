@@ -1,17 +1,23 @@
-use native.Mathlib.Omega.{arith}
-use lib.Dec.{leb}
-use Rattle.nodes.proofs.Leaves.{ne-xor}
+use mathlib.Core.Bool.{xor}
+use borrow.Author.Needs.{needs}
 use Rattle.nodes.proofs.check.absorb.Statement.{statement}
 use Rattle.nodes.proofs.check.absorb.Tie as tie
 
+cast-m : tie.Need-cast-m
+cast-m c = search needs
+
+lower-requires : tie.Need-lower-requires
+lower-requires c κs = search needs
+
+higher-requires : tie.Need-higher-requires
+higher-requires c κs = search needs
+
+lower-requires-2 : tie.Need-lower-requires-2
+lower-requires-2 c κs = search needs
+
 returns : tie.Need-returns
-returns c = (ne-xor (c .before .before .before .args .s .minus) (leb 128 (c .before .before .before .args .b)), omega arith)
-
-returns-2 : tie.Need-returns-2
-returns-2 c = (ne-xor (c .before .before .before .before .before .args .s .minus) (leb 128 (c .before .before .before .before .before .args .b)), omega arith)
-
-returns-3 : tie.Need-returns-3
-returns-3 c = (ne-xor (c .before .before .before .before .before .args .s .minus) (leb 128 (c .before .before .before .before .before .args .b)), omega arith)
+unfolding xor
+returns c = search needs
 
 pub absorb-spec : {M : Type 1} → statement M
-absorb-spec = tie.close (tie.spec returns returns-2 returns-3)
+absorb-spec = tie.close (tie.spec cast-m lower-requires higher-requires lower-requires-2 returns)

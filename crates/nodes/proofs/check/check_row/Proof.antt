@@ -1,23 +1,19 @@
 use borrow.Author.Needs.{needs}
-use mathlib.Core.Path.{_≡_, _∙_}
+use mathlib.Core.Path.{_∙_}
 use mathlib.Core.List.{List}
 use Prim.Native.Nat.{ℕ, _≤_, _<_, _-_}
 use native.Mathlib.Omega.{arith}
-use lib.ListN.{length, getD}
+use lib.ListN.{length}
 use Rattle.rules.specs.Levels.{levelOf, byte}
 use Rattle.rules.proofs.Filling.{Filled, filled-none, filled-more, filled-all}
 use Rattle.nodes.specs.Memory.{levelIn}
 use Rattle.nodes.specs.Rows.{rowMessage}
-use Rattle.nodes.proofs.Leaves.{magnitude-small}
 use Rattle.nodes.proofs.RowLaws.{kept-small, kept-sends}
 use Rattle.nodes.proofs.check.check_row.Statement.{statement}
 use Rattle.nodes.proofs.check.check_row.Tie as tie
 
 abbrev sent : List ℕ → ℕ → ℕ
 sent incoming j = byte (rowMessage (levelIn incoming) (length incoming) j)
-
-small : (l : List ℕ) (k : ℕ) → levelIn l k .magnitude ≤ 127
-small l k = magnitude-small (getD l k 0)
 
 abbrev Inv-loop : tie.InvT-loop
 Inv-loop incoming outgoing₀ s j₀ outgoing j = (j ≤ length incoming) × Filled (sent incoming) outgoing₀ outgoing j
@@ -35,7 +31,7 @@ shared-slice-read-answer : tie.Need-shared-slice-read-answer Inv-loop μ-loop
 shared-slice-read-answer c = search needs
 
 answer-requires : tie.Need-answer-requires Inv-loop μ-loop
-answer-requires c κs = omega (arith, kept-small (levelIn (c .before .before .before .before .before .before .args .incoming .now)) (small (c .before .before .before .before .before .before .args .incoming .now)) (c .before .before .before .summarize .ensures))
+answer-requires c κs = omega (arith, kept-small (levelIn (c .before .before .before .before .before .before .args .incoming .now)) (c .before .before .before .summarize .ensures))
 
 slice-write-outgoing : tie.Need-slice-write-outgoing Inv-loop μ-loop
 slice-write-outgoing c = search needs
@@ -52,7 +48,7 @@ loop-again c =
     let h : c .before .before .before .loop .j < length (c .before .before .before .before .before .before .before .args .incoming .now) = omega arith in (
       omega arith,
       filled-more (omega arith) (c .before .before .before .loop .inv .1)
-          (c .answer .ensures ∙ kept-sends (levelIn (c .before .before .before .before .before .before .before .args .incoming .now)) (small (c .before .before .before .before .before .before .before .args .incoming .now)) (c .before .before .before .before .summarize .ensures) (c .before .before .before .loop .j) h),
+          (c .answer .ensures ∙ kept-sends (levelIn (c .before .before .before .before .before .before .before .args .incoming .now)) (c .before .before .before .before .summarize .ensures) (c .before .before .before .loop .j) h),
     )
 
 same-length : tie.Need-same-length Inv-loop μ-loop
