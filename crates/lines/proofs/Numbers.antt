@@ -45,7 +45,7 @@ decimal-more k h =
 pub digit-true : (b : ℕ) → 48 ≤ b → b ≤ 57 → digit b ≡ true
 digit-true b h1 h2 = rw (le-leb 48 b h1) (le-leb b 57 h2)
 
-digit-told : (b : ℕ) → digit b ≡ true → (48 ≤ b) × (b ≤ 57)
+pub digit-told : (b : ℕ) → digit b ≡ true → (48 ≤ b) × (b ≤ 57)
 digit-told b e = go (leb 48 b) refl e
   where
     go : (c : Bool) → leb 48 b ≡ c → c && leb b 57 ≡ true → (48 ≤ b) × (b ≤ 57)

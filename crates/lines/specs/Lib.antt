@@ -1,3 +1,5 @@
+pub mod Quoted
 pub mod Numbers
 pub mod Lines
 pub mod Places
+pub mod Putting

@@ -34,3 +34,8 @@ more v (b ∷ t) = cond (digit b) (more (v * 10 + (b - 48)) t) (value v (b ∷ t
 unfoldable pub number : List ℕ → Front ℕ
 number [] = other
 number (b ∷ t) = cond (eqb b 48) (value 0 t) (cond (digit b) (more (b - 48) t) other)
+
+-- The digit at the front of a text, or 10 where there is none.
+unfoldable pub frontDigit : List ℕ → ℕ
+frontDigit [] = 10
+frontDigit (b ∷ t) = cond (digit b) (b - 48) 10

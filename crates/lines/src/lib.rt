@@ -1,10 +1,12 @@
-// Decimal numbers, lines of two numbers and fixed texts at a place of a text.
+// Decimal numbers, lines of two numbers and fixed texts at a place of a text: read, and put.
 ghost use mathlib.Core.Path.{_≡_};
-ghost use Prim.Native.Nat.{_+_, _-_, _*_, _≤_, min};
-ghost use lib.ListN.{length};
-ghost use Rattle.lines.specs.Numbers.{number};
+ghost use mathlib.Core.List.{[], _∷_, _++_};
+ghost use Prim.Native.Nat.{_+_, _-_, _*_, _%_, _<_, _≤_, min};
+ghost use lib.ListN.{length, drop};
+ghost use Rattle.lines.specs.Numbers.{number, more, frontDigit, decimal};
 ghost use Rattle.lines.specs.Lines.{field};
 ghost use Rattle.lines.specs.Places.{cap, NumberAt, LineAt, FixedAt};
+ghost use Rattle.lines.specs.Putting.{Put};
 
 // A number and the place after it. A number above every limit is given as CAP.
 pub enum Number {
@@ -39,28 +41,13 @@ fn push(v: usize, b: u8) -> usize
     if w < CAP { w } else { CAP }
 }
 
-// The number at a place.
-pub fn number_at(s: &[u8], at: usize) -> Number
+// The number at a place whose digits before place `from` make `so_far`.
+fn rest_at(s: &[u8], at: usize, from: usize, so_far: usize) -> Number
+    requires { ⌜ (at < from) × (from ≤ length (now s)) × («so_far» ≤ cap) × (number (drop at (now s)) ≡ more «so_far» (drop from (now s))) ⌝ }
     ensures { λ r. ⌜ NumberAt number (now (s .entry)) at r ⌝ }
 {
-    if s.len() <= at {
-        return Number::Other;
-    }
-    let b = s[at];
-    if b == 48 {
-        return Number::Value {
-            value: 0,
-            next: at + 1,
-        };
-    }
-    if b < 48 {
-        return Number::Other;
-    }
-    if 57 < b {
-        return Number::Other;
-    }
-    let mut v = push(0, b);
-    let mut i = at + 1;
+    let mut v = so_far;
+    let mut i = from;
     while i < s.len() {
         let d = s[i];
         if d < 48 {
@@ -73,6 +60,68 @@ pub fn number_at(s: &[u8], at: usize) -> Number
         i += 1;
     }
     Number::Value { value: v, next: i }
+}
+
+// The digit at a place, or 10 where there is none.
+fn digit_at(s: &[u8], i: usize) -> usize
+    ensures { λ r. ⌜ r ≡ frontDigit (drop i (now (s .entry))) ⌝ }
+{
+    if s.len() <= i {
+        return 10;
+    }
+    let b = s[i];
+    if b < 48 {
+        return 10;
+    }
+    if 57 < b {
+        return 10;
+    }
+    b as usize - 48
+}
+
+// The number at a place: four digits straight, and the rest in a loop.
+pub fn number_at(s: &[u8], at: usize) -> Number
+    ensures { λ r. ⌜ NumberAt number (now (s .entry)) at r ⌝ }
+{
+    let a = digit_at(s, at);
+    if 9 < a {
+        return Number::Other;
+    }
+    let i = at + 1;
+    if a == 0 {
+        return Number::Value { value: 0, next: i };
+    }
+    let b = digit_at(s, i);
+    if 9 < b {
+        return Number::Value { value: a, next: i };
+    }
+    let two = a * 10 + b;
+    let j = i + 1;
+    let c = digit_at(s, j);
+    if 9 < c {
+        return Number::Value {
+            value: two,
+            next: j,
+        };
+    }
+    let three = two * 10 + c;
+    let k = j + 1;
+    let d = digit_at(s, k);
+    if 9 < d {
+        return Number::Value {
+            value: three,
+            next: k,
+        };
+    }
+    let four = three * 10 + d;
+    let l = k + 1;
+    if 9 < digit_at(s, l) {
+        return Number::Value {
+            value: four,
+            next: l,
+        };
+    }
+    rest_at(s, at, l, four)
 }
 
 // A number at a place, with the byte x after it.
@@ -140,4 +189,79 @@ pub fn fixed_at(x: &[u8], s: &[u8], at: usize) -> Mark
         j += 1;
     }
     Mark::After(i)
+}
+
+// ---- writing
+
+// Puts a fixed text at a place. Each `put` answers the place after what it put.
+pub fn put_fixed(text: &mut [u8], at: usize, x: &[u8]) -> usize
+    requires { ⌜ at + length (now x) ≤ length (now text) ⌝ }
+    ensures { λ r. ⌜ Put (now (x .entry)) (now (text .entry)) (now (text .exit)) at r ⌝ }
+{
+    let mut k = 0;
+    while k < x.len() {
+        text[at + k] = x[k];
+        k += 1;
+    }
+    at + k
+}
+
+// Puts the last digit of a number.
+fn put_digit(text: &mut [u8], at: usize, k: usize) -> usize
+    requires { ⌜ at < length (now text) ⌝ }
+    ensures { λ r. ⌜ Put ((48 + k % 10) ∷ []) (now (text .entry)) (now (text .exit)) at r ⌝ }
+{
+    text[at] = b'0' + (k % 10) as u8;
+    at + 1
+}
+
+// Puts the digits of a number, with a call for each.
+fn put_long(text: &mut [u8], at: usize, k: usize) -> usize
+    requires { ⌜ at + length (decimal k) ≤ length (now text) ⌝ }
+    ensures { λ r. ⌜ Put (decimal k) (now (text .entry)) (now (text .exit)) at r ⌝ }
+{
+    if k < 10 {
+        return put_digit(text, at, k);
+    }
+    let last = put_long(text, at, k / 10);
+    put_digit(text, last, k)
+}
+
+// Puts the digits of a number.
+pub fn put_number(text: &mut [u8], at: usize, k: usize) -> usize
+    requires { ⌜ at + length (decimal k) ≤ length (now text) ⌝ }
+    ensures { λ r. ⌜ Put (decimal k) (now (text .entry)) (now (text .exit)) at r ⌝ }
+{
+    if k < 10 {
+        return put_digit(text, at, k);
+    }
+    let tens = k / 10;
+    if k < 100 {
+        let i = put_digit(text, at, tens);
+        return put_digit(text, i, k);
+    }
+    let hundreds = tens / 10;
+    if k < 1000 {
+        let i = put_digit(text, at, hundreds);
+        let j = put_digit(text, i, tens);
+        return put_digit(text, j, k);
+    }
+    let thousands = hundreds / 10;
+    if k < 10000 {
+        let h = put_digit(text, at, thousands);
+        let i = put_digit(text, h, hundreds);
+        let j = put_digit(text, i, tens);
+        return put_digit(text, j, k);
+    }
+    put_long(text, at, k)
+}
+
+// Puts the digits of a number, and the byte x after them.
+pub fn put_field(text: &mut [u8], at: usize, k: usize, x: u8) -> usize
+    requires { ⌜ at + length (decimal k) < length (now text) ⌝ }
+    ensures { λ r. ⌜ Put (decimal k ++ (x ∷ [])) (now (text .entry)) (now (text .exit)) at r ⌝ }
+{
+    let i = put_number(text, at, k);
+    text[i] = x;
+    i + 1
 }

@@ -1,6 +1,6 @@
 -- The lists of a sheet's graph, and what the check of a graph finds in them.
 use mathlib.Core.Path.{_≡_, refl, sym, ap, ap₂, _∙_, subst}
-use mathlib.Core.List.{List, [], append-nil}
+use mathlib.Core.List.{List, [], _++_, append-nil}
 use Prim.Native.Nat.{ℕ, suc, _+_, _*_, _-_, _≤_, _<_}
 use native.Mathlib.Omega.{arith}
 use lib.ListN.{length, take, drop, length-append}
@@ -8,9 +8,12 @@ use lib.Seq.{take-at}
 use Rattle.rules.specs.Graphs.{Graph}
 use Rattle.words.specs.Words.{word, table}
 use Rattle.words.proofs.Words.{length-table, at-table}
-use Rattle.graph.specs.Judging.{graphOf, graphJudged}
+use Rattle.graph.specs.Judging.{graphJudged}
+use Rattle.words.specs.Roles.{graphOf}
 use Rattle.graph.proofs.Parts.{counts-admitted, starts-admitted, columns-admitted, rows-admitted}
 use Rattle.lines.specs.Lines.{Pair, pair}
+use Rattle.lines.specs.Putting.{Put}
+use Rattle.lines.proofs.Putting.{put-same, put-front}
 use Rattle.sheet_text.specs.Reading.{Lines, startIn, columnIn, graphIn, sheetLines}
 use Rattle.sheet_text.specs.Scanning.{counted, LinesAt}
 use Rattle.sheet_text.specs.declared.Counts.{Counts}
@@ -68,6 +71,26 @@ module _ (c : Pair) (ps : List Pair) (h : Lined c ps) where
               column-rise c (pair 0 0) ps (h .rising) i e (omega arith) (omega arith),
             )
 
+-- what was stored stands at the front of each list, and may be copied from there
+module _ {G : Graph} {starts starts′ columns columns′ : List ℕ} (m : Stores G starts starts′ columns columns′) (n : ℕ) where
+  pub starts-front : n ≡ 2 * suc (G .checks) → take n starts′ ≡ table 2 (G .start) (suc (G .checks))
+  starts-front e = ap (take n) (m .starts) ∙ take-at (table 2 (G .start) (suc (G .checks))) (drop (2 * suc (G .checks)) starts) n (length-table 2 (G .start) (suc (G .checks)) ∙ sym e)
+
+  pub columns-front : n ≡ 2 * G .entries → take n columns′ ≡ table 2 (G .column) (G .entries)
+  columns-front e = ap (take n) (m .columns) ∙ take-at (table 2 (G .column) (G .entries)) (drop (2 * G .entries) columns) n (length-table 2 (G .column) (G .entries) ∙ sym e)
+
+table-put : (f : ℕ → ℕ) (n : ℕ) {t old now : List ℕ} {next : ℕ} → t ≡ table 2 f n → 2 * n ≤ length old → Put t old now 0 next → now ≡ table 2 f n ++ drop (2 * n) old
+table-put f n {t} {old} e l p =
+    put-front (omega (arith, length-table 2 f n)) (put-same p e) ∙ ap (λ (k : ℕ). table 2 f n ++ drop k old) (length-table 2 f n)
+
+pub stores-copied : {G : Graph} {starts starts′ columns columns′ : List ℕ} → Stores G starts starts′ columns columns′
+    → (a b : ℕ) {i j : ℕ} {lent lent′ held held′ : List ℕ} → a ≡ 2 * suc (G .checks) → b ≡ 2 * G .entries → a ≤ length lent → b ≤ length held
+    → Put (take a starts′) lent lent′ 0 i → Put (take b columns′) held held′ 0 j → Stores G lent lent′ held held′
+stores-copied {G} m a b ea eb la lb p q = record {
+  starts = table-put (G .start) (suc (G .checks)) (starts-front m a ea) (omega arith) p;
+  columns = table-put (G .column) (G .entries) (columns-front m b eb) (omega arith) q;
+}
+
 -- the check of a graph on the lists that were stored
 pub stored-judged : (s : List ℕ) (k : Counts) (at : ℕ) (starts starts′ columns columns′ : List ℕ) → LinesAt s (sheetLines s) k at
     → Stores (linesGraph (sheetLines s)) starts starts′ columns columns′
@@ -87,14 +110,10 @@ stored-judged s k at starts starts′ columns columns′ h m =
     held = subst (λ (x : Lines). Stores (linesGraph x) starts starts′ columns columns′) (h .are) m
 
     starts-are : take (2 * (k .checks + 1)) starts′ ≡ table 2 (startIn ps) (suc (k .checks))
-    starts-are =
-        ap (take (2 * (k .checks + 1))) (held .starts)
-        ∙ take-at (table 2 (startIn ps) (suc (k .checks))) (drop (2 * suc (k .checks)) starts) (2 * (k .checks + 1)) (length-table 2 (startIn ps) (suc (k .checks)) ∙ omega arith)
+    starts-are = starts-front held (2 * (k .checks + 1)) (omega arith)
 
     columns-are : take (2 * k .entries) columns′ ≡ table 2 (columnIn ps) (length ps)
-    columns-are =
-        ap (take (2 * k .entries)) (held .columns)
-        ∙ take-at (table 2 (columnIn ps) (length ps)) (drop (2 * length ps) columns) (2 * k .entries) (length-table 2 (columnIn ps) (length ps) ∙ omega (arith, h .many))
+    columns-are = columns-front held (2 * k .entries) (omega (arith, h .many))
 
 -- the lists are long enough for what was stored
 pub stored-long : (s : List ℕ) (k : Counts) (at : ℕ) (starts starts′ columns columns′ : List ℕ) → LinesAt s (sheetLines s) k at

@@ -1,64 +1,102 @@
 -- Each way out of reading a sheet gives what the definition says of the answer and of both lists.
 use mathlib.Core.Path.{_≡_, refl, sym, ap, _∙_, subst}
-use mathlib.Core.Bool.{Bool, true, false, _&&_}
+use mathlib.Core.Bool.{Bool, false, true, _&&_}
 use mathlib.Core.List.{List}
 use Prim.Native.Nat.{ℕ, suc, _+_, _*_, _≤_, _<_}
 use native.Mathlib.Omega.{arith}
-use borrow.Author.Tests.{le-leb, lt-leb}
+use borrow.Author.Tests.{le-leb, lt-leb, leb-true}
 use lib.Dec.{leb}
 use lib.ListN.{length}
+use Rattle.rules.specs.Graphs.{Graph}
+use Rattle.rules.specs.Refusals.{unless}
 use Rattle.rules.specs.declared.Refusal.{Refusal}
 use Rattle.rules.specs.declared.Refusal.the-variants.{Buffer}
 use Rattle.rules.specs.declared.Judged.{Judged}
 use Rattle.rules.specs.declared.Judged.the-variants as Judgement
+use Rattle.rules.proofs.Judging.{orElse-right, unless-true, and-left, and-right}
 use Rattle.sheet_text.specs.Reading.{Lines, refused, lines, sheetLines, graphIn}
 use Rattle.sheet_text.specs.Scanning.{counted, LinesAt}
 use Rattle.sheet_text.specs.declared.Counts.{Counts}
-use Rattle.sheet.specs.Reading.{Reading, turned, graph, degreesJudged, readLines, sheetRead, ReadAs}
+use Rattle.sheet.specs.Reading.{Reading, turned, graph, roomFor, degreesJudged, afterLines, unlessRefused, readLines, sheetRead, readJudged, ReadAs}
 use Rattle.sheet.specs.Storing.{linesGraph, Stores}
 use Rattle.sheet.specs.declared.Sheet.{Sheet}
 use Rattle.sheet.specs.declared.Sheet.the-variants as Answer
 
--- a refusal changes nothing
-turned-read : {x : Reading} {r : Refusal} {st co : List ℕ} → x ≡ turned r → ReadAs x (Answer.Refused r) st st co co
-turned-read e = rw e (record { answer = refl; starts = refl; columns = refl })
-
-pub lines-refused : (t st co : List ℕ) {r : Refusal} → sheetLines t ≡ refused r → ReadAs (sheetRead t (length st) (length co)) (Answer.Refused r) st st co co
-unfolding sheetRead
-lines-refused t st co e = turned-read (ap (λ (x : Lines). readLines x (length st) (length co)) e)
+-- ---- what is refused after the last line
 
 and-no : (a : Bool) → a && false ≡ false
 and-no true = refl
 and-no false = refl
 
-module _ (t st co : List ℕ) (k : Counts) (at : ℕ) (h : LinesAt t (sheetLines t) k at) where
-  abbrev Out : Sheet → List ℕ → List ℕ → Type 0
-  Out r st′ co′ = ReadAs (sheetRead t (length st) (length co)) r st st′ co co′
+module _ (G : Graph) (s c : ℕ) where
+  pub degrees-refused : {r : Refusal} → degreesJudged G ≡ Judgement.Refused r → afterLines G s c ≡ Judgement.Refused r
+  degrees-refused e = rw e
 
-  reading : sheetRead t (length st) (length co) ≡ readLines (lines (counted k) (h .entries)) (length st) (length co)
+  module _ (d : degreesJudged G ≡ Judgement.Admitted) where
+    pub starts-short : s < 2 * suc (G .checks) → afterLines G s c ≡ Judgement.Refused Buffer
+    starts-short l = rw (d, lt-leb (2 * suc (G .checks)) s l)
+
+    pub columns-short : c < 2 * G .entries → afterLines G s c ≡ Judgement.Refused Buffer
+    columns-short l = rw (d, lt-leb (2 * G .entries) c l, and-no (leb (2 * suc (G .checks)) s))
+
+    pub long-enough : 2 * suc (G .checks) ≤ s → 2 * G .entries ≤ c → afterLines G s c ≡ Judgement.Admitted
+    long-enough ls lc = rw (d, le-leb (2 * suc (G .checks)) s ls, le-leb (2 * G .entries) c lc)
+
+  pub room-told : afterLines G s c ≡ Judgement.Admitted → (2 * suc (G .checks) ≤ s) × (2 * G .entries ≤ c)
+  room-told h =
+      let a = leb (2 * suc (G .checks)) s in
+      let b = leb (2 * G .entries) c in
+      let room = unless-true (roomFor G s c) Buffer (orElse-right (degreesJudged G) (unless (roomFor G s c) Buffer) h) in
+      (leb-true (2 * suc (G .checks)) s (and-left a b room), leb-true (2 * G .entries) c (and-right a b room))
+
+-- ---- the answer, and both lists
+
+-- a refusal changes nothing
+turned-read : {x : Reading} {r : Refusal} {st co : List ℕ} → x ≡ turned r → ReadAs x (Answer.Refused r) st st co co
+turned-read e = rw e (record { answer = refl; starts = refl; columns = refl })
+
+module _ (t : List ℕ) {r : Refusal} (e : sheetLines t ≡ refused r) where
+  turned-lines : (s c : ℕ) → sheetRead t s c ≡ turned r
   unfolding sheetRead
-  reading = ap (λ (x : Lines). readLines x (length st) (length co)) (h .are)
+  turned-lines s c = ap (λ (x : Lines). readLines x s c) e
 
-  degrees-of : {j : Judged} → j ≡ degreesJudged (linesGraph (sheetLines t)) → degreesJudged (graphIn (counted k) (h .entries)) ≡ j
-  degrees-of e = sym (e ∙ ap (λ (x : Lines). degreesJudged (linesGraph x)) (h .are))
+  pub lines-refused : (st co : List ℕ) → ReadAs (sheetRead t (length st) (length co)) (Answer.Refused r) st st co co
+  lines-refused st co = turned-read (turned-lines (length st) (length co))
 
-  pub degrees-refused : {r : Refusal} → Judgement.Refused r ≡ degreesJudged (linesGraph (sheetLines t)) → Out (Answer.Refused r) st co
-  degrees-refused e = turned-read (reading ∙ rw (degrees-of e))
+  pub lines-judged : (s c : ℕ) → readJudged (sheetRead t s c) ≡ Judgement.Refused r
+  lines-judged s c = ap readJudged (turned-lines s c)
 
-  module _ (d : Judgement.Admitted ≡ degreesJudged (linesGraph (sheetLines t))) where
-    pub starts-short : length st < 2 * (k .checks + 1) → Out (Answer.Refused Buffer) st co
-    starts-short l = turned-read (reading ∙ rw (degrees-of d, lt-leb (2 * suc (k .checks)) (length st) (omega arith)))
+judged-back : (j : Judged) (G : Graph) → readJudged (unlessRefused j G) ≡ j
+judged-back Judgement.Admitted G = refl
+judged-back (Judgement.Refused r) G = refl
 
-    pub columns-short : length co < 2 * k .entries → Out (Answer.Refused Buffer) st co
-    columns-short l =
-        turned-read (reading ∙ rw (degrees-of d, lt-leb (2 * length (h .entries)) (length co) (omega (arith, h .many)), and-no (leb (2 * suc (k .checks)) (length st))))
+module _ (t : List ℕ) (k : Counts) (at : ℕ) (h : LinesAt t (sheetLines t) k at) where
+  abbrev G : Graph
+  G = linesGraph (sheetLines t)
 
-    pub all-stored : 2 * (k .checks + 1) ≤ length st → 2 * k .entries ≤ length co → {st′ co′ : List ℕ}
-        → Stores (linesGraph (sheetLines t)) st st′ co co′ → Out (Answer.Read k) st′ co′
-    all-stored ls lc {st′} {co′} m =
-        let held = subst (λ (x : Lines). Stores (linesGraph x) st st′ co co′) (h .are) m in
+  -- the counts of the graph, as the code has them
+  pub counts-are : (G .checks ≡ k .checks) × (G .entries ≡ k .entries)
+  counts-are = (ap (λ (x : Lines). linesGraph x .checks) (h .are), ap (λ (x : Lines). linesGraph x .entries) (h .are) ∙ h .many)
+
+  module _ (s c : ℕ) where
+    reading : sheetRead t s c ≡ unlessRefused (afterLines G s c) G
+    unfolding sheetRead
+    reading = rw (h .are)
+
+    pub after-judged : readJudged (sheetRead t s c) ≡ afterLines G s c
+    after-judged = ap readJudged reading ∙ judged-back (afterLines G s c) G
+
+  module _ (st co : List ℕ) where
+    pub after-refused : {r : Refusal} → afterLines G (length st) (length co) ≡ Judgement.Refused r
+        → ReadAs (sheetRead t (length st) (length co)) (Answer.Refused r) st st co co
+    after-refused e = turned-read (reading (length st) (length co) ∙ ap (λ (j : Judged). unlessRefused j G) e)
+
+    pub all-stored : afterLines G (length st) (length co) ≡ Judgement.Admitted → {st′ co′ : List ℕ} → Stores G st st′ co co′
+        → ReadAs (sheetRead t (length st) (length co)) (Answer.Read k) st st′ co co′
+    all-stored e {st′} {co′} m =
         let whole : sheetRead t (length st) (length co) ≡ graph (graphIn (counted k) (h .entries)) =
-        reading ∙ rw (degrees-of d, le-leb (2 * suc (k .checks)) (length st) (omega arith), le-leb (2 * length (h .entries)) (length co) (omega (arith, h .many))) in
+        reading (length st) (length co) ∙ ap (λ (j : Judged). unlessRefused j G) e ∙ ap (λ (x : Lines). graph (linesGraph x)) (h .are) in
+        let held = subst (λ (x : Lines). Stores (linesGraph x) st st′ co co′) (h .are) m in
         rw whole (record {
           answer = ap (λ (e : ℕ). Answer.Read (record { variables = k .variables; checks = k .checks; entries = e })) (sym (h .many));
           starts = held .starts;

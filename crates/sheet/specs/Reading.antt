@@ -46,6 +46,11 @@ readLines (lines k ps) s c = unlessRefused (afterLines (graphIn k ps) s c) (grap
 unfoldable pub sheetRead : List ℕ → ℕ → ℕ → Reading
 sheetRead t s c = readLines (sheetLines t) s c
 
+-- What is refused of it.
+abbrev pub readJudged : Reading → Judged
+readJudged (turned r) = Judgement.Refused r
+readJudged (graph G) = Judgement.Admitted
+
 -- ---- the answer, and the lists afterwards
 
 abbrev pub answerOf : Reading → Sheet

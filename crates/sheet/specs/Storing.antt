@@ -3,9 +3,10 @@ use mathlib.Core.Path.{_≡_}
 use mathlib.Core.List.{List, []}
 use Prim.Native.Nat.{ℕ}
 use Rattle.rules.specs.Graphs.{Graph}
+use Rattle.rules.specs.declared.Judged.{Judged}
 use Rattle.lines.specs.Lines.{pair}
 use Rattle.sheet_text.specs.Reading.{Lines, refused, lines, graphIn}
-use Rattle.sheet.specs.Reading.{graph, startsOf, columnsOf}
+use Rattle.sheet.specs.Reading.{afterLines, graph, startsOf, columnsOf}
 
 -- The graph of the lines of a sheet.
 abbrev pub linesGraph : Lines → Graph
@@ -16,3 +17,8 @@ linesGraph (lines c ps) = graphIn c ps
 pub record Stores (G : Graph) (s s′ c c′ : List ℕ) : Type 0 where
   pub starts : s′ ≡ startsOf (graph G) s
   pub columns : c′ ≡ columnsOf (graph G) c
+
+-- The graph in the reader's own lists, and what is refused of it where lists of so many bytes are lent.
+pub record JudgedStored (G : Graph) (starts columns : ℕ) (r : Judged) (s s′ c c′ : List ℕ) : Type 0 where
+  pub judged : r ≡ afterLines G starts columns
+  pub stores : Stores G s s′ c c′

@@ -6,8 +6,8 @@ ghost use lib.ListN.{length};
 ghost use Rattle.words.proofs.Filling.{Filled};
 ghost use Rattle.sheet_text.specs.Reading.{sheetLines};
 ghost use Rattle.sheet_text.specs.Scanning.{LinesAt};
-ghost use Rattle.sheet.specs.Reading.{sheetRead, ReadAs};
-ghost use Rattle.sheet.specs.Storing.{linesGraph, Stores};
+ghost use Rattle.sheet.specs.Reading.{afterLines, sheetRead, readJudged, ReadAs};
+ghost use Rattle.sheet.specs.Storing.{linesGraph, Stores, JudgedStored};
 use lines::Line;
 use rules::Judged;
 use rules::Refusal;
@@ -32,7 +32,7 @@ fn fill(starts: &mut [u8], a: usize, b: usize, x: u16)
     }
 }
 
-// The second pass: the entries' lines, judged before, into the two lists.
+// The second pass: the entries' lines, judged before, into two lists.
 fn store(text: &[u8], at: usize, counts: Counts, starts: &mut [u8], columns: &mut [u8])
     requires { ⌜ LinesAt (now text) (sheetLines (now text)) counts at ⌝ }
     requires { ⌜ (2 * suc (counts .checks) ≤ length (now starts)) × (2 * counts .entries ≤ length (now columns)) ⌝ }
@@ -62,8 +62,67 @@ fn store(text: &[u8], at: usize, counts: Counts, starts: &mut [u8], columns: &mu
     fill(starts, filled, m + 1, count as u16);
 }
 
-// 5, judged on lists of its own, and 6; and only then the lists that are lent.
-fn finish(
+// 5, judged on lists of its own, and 6, where lists of so many bytes are lent.
+fn judge_stored(
+    text: &[u8],
+    at: usize,
+    counts: Counts,
+    own_starts: &mut [u8],
+    own_columns: &mut [u8],
+    starts: usize,
+    columns: usize,
+) -> Judged
+    requires { ⌜ LinesAt (now text) (sheetLines (now text)) counts at ⌝ }
+    requires { ⌜ (16386 ≤ length (now «own_starts»)) × (65536 ≤ length (now «own_columns»)) ⌝ }
+    ensures { λ r. ⌜ JudgedStored (linesGraph (sheetLines (now (text .entry)))) starts columns r (now («own_starts» .entry)) (now («own_starts» .exit)) (now («own_columns» .entry)) (now («own_columns» .exit)) ⌝ }
+{
+    store(text, at, counts, own_starts, own_columns);
+    let s = 2 * (counts.checks + 1);
+    let c = 2 * counts.entries;
+    let j = graph::check(counts.variables, &own_starts[0..s], &own_columns[0..c]);
+    if let Judged::Refused(r) = j {
+        return Judged::Refused(r);
+    }
+    if starts < s {
+        return Judged::Refused(Refusal::Buffer);
+    }
+    if columns < c {
+        return Judged::Refused(Refusal::Buffer);
+    }
+    Judged::Admitted
+}
+
+// What is refused after the last line.
+fn judge_lines(text: &[u8], at: usize, counts: Counts, starts: usize, columns: usize) -> Judged
+    requires { ⌜ LinesAt (now text) (sheetLines (now text)) counts at ⌝ }
+    ensures { λ r. ⌜ r ≡ afterLines (linesGraph (sheetLines (now (text .entry)))) starts columns ⌝ }
+{
+    let mut own_starts = [0u8; 16386];
+    let mut own_columns = [0u8; 65536];
+    judge_stored(
+        text,
+        at,
+        counts,
+        &mut own_starts,
+        &mut own_columns,
+        starts,
+        columns,
+    )
+}
+
+// Number and place of what `read` refuses for lists of so many bytes.
+pub fn judge_read(text: &[u8], starts: usize, columns: usize) -> Judged
+    ensures { λ r. ⌜ r ≡ readJudged (sheetRead (now (text .entry)) starts columns) ⌝ }
+{
+    let scanned = sheet_text::scan(text);
+    match scanned {
+        Scanned::Refused(r) => Judged::Refused(r),
+        Scanned::Lines(counts, at) => judge_lines(text, at, counts, starts, columns),
+    }
+}
+
+// Where nothing is refused, the reader's own lists are copied to those that are lent.
+fn hand_over(
     text: &[u8],
     at: usize,
     counts: Counts,
@@ -76,21 +135,43 @@ fn finish(
     requires { ⌜ (16386 ≤ length (now «own_starts»)) × (65536 ≤ length (now «own_columns»)) ⌝ }
     ensures { λ r. ⌜ ReadAs (sheetRead (now (text .entry)) (length (now (starts .entry))) (length (now (columns .entry)))) r (now (starts .entry)) (now (starts .exit)) (now (columns .entry)) (now (columns .exit)) ⌝ }
 {
-    store(text, at, counts, own_starts, own_columns);
-    let s = 2 * (counts.checks + 1);
-    let c = 2 * counts.entries;
-    let j = graph::check(counts.variables, &own_starts[0..s], &own_columns[0..c]);
+    let room_starts = starts.len();
+    let room_columns = columns.len();
+    let j = judge_stored(
+        text,
+        at,
+        counts,
+        own_starts,
+        own_columns,
+        room_starts,
+        room_columns,
+    );
     if let Judged::Refused(r) = j {
         return Sheet::Refused(r);
     }
-    if starts.len() < s {
-        return Sheet::Refused(Refusal::Buffer);
-    }
-    if columns.len() < c {
-        return Sheet::Refused(Refusal::Buffer);
-    }
-    store(text, at, counts, starts, columns);
+    let s = 2 * (counts.checks + 1);
+    let c = 2 * counts.entries;
+    lines::put_fixed(starts, 0, &own_starts[0..s]);
+    lines::put_fixed(columns, 0, &own_columns[0..c]);
     Sheet::Read(counts)
+}
+
+// What follows the last line.
+fn finish(text: &[u8], at: usize, counts: Counts, starts: &mut [u8], columns: &mut [u8]) -> Sheet
+    requires { ⌜ LinesAt (now text) (sheetLines (now text)) counts at ⌝ }
+    ensures { λ r. ⌜ ReadAs (sheetRead (now (text .entry)) (length (now (starts .entry))) (length (now (columns .entry)))) r (now (starts .entry)) (now (starts .exit)) (now (columns .entry)) (now (columns .exit)) ⌝ }
+{
+    let mut own_starts = [0u8; 16386];
+    let mut own_columns = [0u8; 65536];
+    hand_over(
+        text,
+        at,
+        counts,
+        &mut own_starts,
+        &mut own_columns,
+        starts,
+        columns,
+    )
 }
 
 // Reads a sheet: the refusals in their order, and only then the lists.
@@ -103,17 +184,7 @@ pub fn read(text: &[u8], starts: &mut [u8], columns: &mut [u8]) -> Sheet
             return Sheet::Refused(r);
         }
         Scanned::Lines(counts, at) => {
-            let mut own_starts = [0u8; 16386];
-            let mut own_columns = [0u8; 65536];
-            return finish(
-                text,
-                at,
-                counts,
-                &mut own_starts,
-                &mut own_columns,
-                starts,
-                columns,
-            );
+            return finish(text, at, counts, starts, columns);
         }
     }
 }

@@ -1,17 +1,18 @@
 -- Document 01, 'Code sheet and program': the text of a graph.
-use mathlib.Core.List.{List, [], _∷_, _++_}
+use mathlib.Core.List.{List, _++_}
 use Prim.Native.Nat.{ℕ, _+_}
 use Rattle.rules.specs.Ranges.{joined, tabulate}
 use Rattle.rules.specs.Graphs.{Graph, checkDegree}
+use Rattle.lines.specs.Quoted.{ascii}
 use Rattle.lines.specs.Lines.{Pair, pair, lineText, linesText}
 
 -- 'Line 1 is `variables checks`', with its LF.
 abbrev pub heading : List ℕ
-heading = 118 ∷ 97 ∷ 114 ∷ 105 ∷ 97 ∷ 98 ∷ 108 ∷ 101 ∷ 115 ∷ 32 ∷ 99 ∷ 104 ∷ 101 ∷ 99 ∷ 107 ∷ 115 ∷ 10 ∷ []
+heading = ascii "variables checks\n"
 
 -- 'Line 3 `check variable`', with its LF.
 abbrev pub titles : List ℕ
-titles = 99 ∷ 104 ∷ 101 ∷ 99 ∷ 107 ∷ 32 ∷ 118 ∷ 97 ∷ 114 ∷ 105 ∷ 97 ∷ 98 ∷ 108 ∷ 101 ∷ 10 ∷ []
+titles = ascii "check variable\n"
 
 -- The sheet of two counts, n and m, and entries, each a pair of a check and a variable.
 unfoldable pub sheetOf : Pair → List Pair → List ℕ

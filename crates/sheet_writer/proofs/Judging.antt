@@ -18,8 +18,9 @@ use Rattle.graph.specs.Judging.{graphJudged}
 use Rattle.graph.proofs.Meaning.{graph-admitted}
 use Rattle.sheet_text.specs.Texts.{sheetText}
 use Rattle.sheet_writer.specs.declared.Written.the-variants as Answer
-use Rattle.sheet_writer.specs.Writing.{writeJudged, writeAnswer, writtenIn, WrittenAs, Put}
-use Rattle.sheet_writer.proofs.Putting.{put-front}
+use Rattle.sheet_writer.specs.Writing.{writeJudged, writeAnswer, writtenIn, WrittenAs}
+use Rattle.lines.specs.Putting.{Put}
+use Rattle.lines.proofs.Putting.{put-front}
 
 module _ (G : Graph) (room : ℕ) where
   pub graph-turned : {r : Refusal} → graphJudged G ≡ Judgement.Refused r → writeJudged G room ≡ Judgement.Refused r

@@ -3,3 +3,4 @@ pub mod Lengths
 pub mod Putting
 pub mod Rows
 pub mod Judging
+pub mod Sizes

@@ -5,7 +5,7 @@ use native.Mathlib.Numerals.{add-one}
 use native.Mathlib.Omega.{arith}
 use Rattle.rules.specs.Graphs.{Graph, Admitted, checkDegree}
 use Rattle.lines.specs.Lines.{pair, lineText}
-use Rattle.graph.proofs.Meaning.{admitted-row}
+use Rattle.rules.proofs.Rows.{admitted-row}
 use Rattle.sheet_writer.proofs.Texts.{entryLine}
 
 -- row i is the entries from a to before b

@@ -1,7 +1,7 @@
 -- The parts of a sheet's text, and how long they are.
 use mathlib.Core.Path.{_≡_, refl, ap, _∙_}
 use mathlib.Core.List.{List, [], _∷_, _++_, append-nil}
-use Prim.Native.Nat.{ℕ, zero, suc, _+_, _/_, _≤_, _<_}
+use Prim.Native.Nat.{ℕ, zero, suc, _+_, _≤_, _<_}
 use mathlib.Core.Logic.{⊎-elim}
 use native.Mathlib.Nat.{eq-or-lt-of-le, le-of-suc-le-suc}
 use native.Mathlib.Numerals.{add-one}
@@ -12,17 +12,10 @@ use Rattle.rules.specs.Graphs.{Graph, checkDegree}
 use Rattle.rules.proofs.Ranges.{joined-ext}
 use Rattle.lines.specs.Numbers.{decimal}
 use Rattle.lines.specs.Lines.{Pair, pair, lineText, linesText}
-use Rattle.lines.proofs.Numbers.{decimal-digit, decimal-more}
 use Rattle.lines.proofs.Lines.{lines-append}
 use Rattle.sheet_text.specs.Texts.{sheetOf, rowEntries, entriesOf, sheetText}
 
--- ---- numbers and lines
-
-pub one-digit : (k : ℕ) → k < 10 → length (decimal k) ≡ 1
-one-digit k h = ap length (decimal-digit k h)
-
-pub more-digits : (k : ℕ) → 10 ≤ k → length (decimal k) ≡ length (decimal (k / 10)) + 1
-more-digits k h = ap length (decimal-more k h) ∙ length-append (decimal (k / 10)) _
+-- ---- lines
 
 pub line-long : (a b : ℕ) → length (lineText (pair a b)) ≡ length (decimal a) + 1 + length (decimal b) + 1
 unfolding lineText

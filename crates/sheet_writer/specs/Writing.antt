@@ -1,10 +1,9 @@
 -- Document 01, 'Write a sheet': the answer on any graph, and every lent byte afterwards.
 use mathlib.Core.Path.{_≡_}
 use mathlib.Core.List.{List, _++_}
-use Prim.Native.Nat.{ℕ, _+_}
+use Prim.Native.Nat.{ℕ}
 use lib.Dec.{leb}
 use lib.ListN.{length, drop}
-use lib.Seq.{sets}
 use Rattle.rules.specs.Graphs.{Graph}
 use Rattle.rules.specs.Refusals.{unless, orElse}
 use Rattle.rules.specs.declared.Refusal.the-variants.{Buffer}
@@ -32,10 +31,3 @@ writtenIn (Judgement.Refused r) G old = old
 pub record WrittenAs (j : Judged) (G : Graph) (r : Written) (old now : List ℕ) : Type 0 where
   pub answer : r ≡ writeAnswer j G
   pub text : now ≡ writtenIn j G old
-
--- ---- the parts of the writer
-
--- A text t was put at a place: the bytes then, and the place after it.
-pub record Put (t old now : List ℕ) (at next : ℕ) : Type 0 where
-  pub text : now ≡ sets old at t
-  pub after : next ≡ at + length t

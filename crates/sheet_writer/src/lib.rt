@@ -5,9 +5,12 @@ ghost use lib.ListN.{length};
 ghost use Rattle.rules.specs.Graphs.{Admitted};
 ghost use Rattle.lines.specs.Numbers.{decimal};
 ghost use Rattle.lines.specs.Lines.{pair, lineText, linesText};
-ghost use Rattle.graph.specs.Judging.{graphOf};
+ghost use Rattle.words.specs.Roles.{graphOf};
+ghost use Rattle.lines.specs.Putting.{Put};
 ghost use Rattle.sheet_text.specs.Texts.{rowEntries, entriesOf, sheetText};
-ghost use Rattle.sheet_writer.specs.Writing.{writeJudged, WrittenAs, Put};
+ghost use Rattle.sheet_writer.specs.Writing.{writeJudged, WrittenAs};
+use lines::put_fixed;
+use lines::put_number;
 use rules::Judged;
 use rules::Refusal;
 
@@ -96,43 +99,15 @@ pub fn judge_write(n: usize, starts: &[u8], columns: &[u8], room: usize) -> Judg
 
 // ---- the text
 
-// Puts a fixed text at a place. Each `put` answers the place after what it put.
-fn put_fixed(text: &mut [u8], at: usize, x: &[u8]) -> usize
-    requires { ⌜ at + length (now x) ≤ length (now text) ⌝ }
-    ensures { λ r. ⌜ Put (now (x .entry)) (now (text .entry)) (now (text .exit)) at r ⌝ }
-{
-    let mut k = 0;
-    while k < x.len() {
-        text[at + k] = x[k];
-        k += 1;
-    }
-    at + k
-}
-
-// Puts the digits of a number.
-fn put_number(text: &mut [u8], at: usize, k: usize) -> usize
-    requires { ⌜ at + length (decimal k) ≤ length (now text) ⌝ }
-    ensures { λ r. ⌜ Put (decimal k) (now (text .entry)) (now (text .exit)) at r ⌝ }
-{
-    if k < 10 {
-        text[at] = b'0' + k as u8;
-        return at + 1;
-    }
-    let last = put_number(text, at, k / 10);
-    text[last] = b'0' + (k % 10) as u8;
-    last + 1
-}
-
 // Puts a line of two numbers.
 fn put_line(text: &mut [u8], at: usize, a: usize, b: usize) -> usize
     requires { ⌜ at + length (lineText (pair a b)) ≤ length (now text) ⌝ }
     ensures { λ r. ⌜ Put (lineText (pair a b)) (now (text .entry)) (now (text .exit)) at r ⌝ }
 {
     let i = put_number(text, at, a);
-    text[i] = b' ';
-    let j = put_number(text, i + 1, b);
-    text[j] = b'\n';
-    j + 1
+    let j = put_fixed(text, i, b" ");
+    let k = put_number(text, j, b);
+    put_fixed(text, k, b"\n")
 }
 
 // Puts the lines of check i.

@@ -1,5 +1,4 @@
 use mathlib.Core.Path.{subst}
-use native.Mathlib.Omega.{arith}
 use Rattle.sheet_text.specs.Reading.{sheetLines}
 use Rattle.sheet_text.specs.Scanning.{ScannedAs}
 use Rattle.sheet.proofs.Ways.{lines-refused}
@@ -14,19 +13,17 @@ enum-known-scanned : tie.Need-enum-known-scanned
 enum-known-scanned c = search needs
 
 returns : tie.Need-returns
-returns c = lines-refused (c .before .before .before .before .before .before .before .args .text .now) (c .before .before .before .before .before .before .before .args .starts .now) (c .before .before .before .before .before .before .before .args .columns .now) (subst (ScannedAs (c .before .before .before .before .before .before .before .args .text .now) (sheetLines (c .before .before .before .before .before .before .before .args .text .now))) (c .before .scanned .given .1) (c .before .before .before .scan .ensures))
+returns c =
+    let a = c .before .before .before .before .before .before .before .args in
+    lines-refused (a .text .now) (subst (ScannedAs (a .text .now) (sheetLines (a .text .now))) (c .before .scanned .given .1) (c .before .before .before .scan .ensures)) (a .starts .now) (a .columns .now)
 
 enum-known-scanned-2 : tie.Need-enum-known-scanned-2
 enum-known-scanned-2 c = search needs
 
-slice-aggregate-finish : tie.Need-slice-aggregate-finish
-slice-aggregate-finish c = search needs
-
-slice-aggregate-finish-2 : tie.Need-slice-aggregate-finish-2
-slice-aggregate-finish-2 c = search needs
-
 finish-requires : tie.Need-finish-requires
-finish-requires c κs = (subst (ScannedAs (c .before .before .before .before .before .before .before .before .before .before .before .args .text .now) (sheetLines (c .before .before .before .before .before .before .before .before .before .before .before .args .text .now))) (c .before .before .before .before .before .scanned2 .given .1) (c .before .before .before .before .before .before .before .scan .ensures), (omega arith, omega arith))
+finish-requires c κs =
+    let a = c .before .before .before .before .before .before .before .before .before .args in
+    subst (ScannedAs (a .text .now) (sheetLines (a .text .now))) (c .before .before .before .scanned2 .given .1) (c .before .before .before .before .before .scan .ensures)
 
 same-length : tie.Need-same-length
 same-length c = search needs
@@ -45,8 +42,6 @@ read-spec =
     enum-known-scanned
     returns
     enum-known-scanned-2
-    slice-aggregate-finish
-    slice-aggregate-finish-2
     finish-requires
     same-length
     same-length-2

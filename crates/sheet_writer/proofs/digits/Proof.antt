@@ -4,7 +4,7 @@ use native.Mathlib.Omega.{arith}
 use borrow.Author.Needs.{needs}
 use lib.ListN.{length}
 use Rattle.lines.specs.Numbers.{decimal}
-use Rattle.sheet_writer.proofs.Texts.{one-digit, more-digits}
+use Rattle.lines.proofs.Putting.{one-digit, more-digits}
 use Rattle.sheet_writer.proofs.digits.Statement.{statement}
 use Rattle.sheet_writer.proofs.digits.Tie as tie
 

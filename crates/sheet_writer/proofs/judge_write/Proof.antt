@@ -3,7 +3,8 @@ use native.Mathlib.Omega.{arith}
 use borrow.Author.Needs.{needs}
 use Rattle.rules.specs.Graphs.{Graph}
 use Rattle.rules.specs.declared.Judged.the-variants as Judgement
-use Rattle.graph.specs.Judging.{graphOf, graphJudged}
+use Rattle.graph.specs.Judging.{graphJudged}
+use Rattle.words.specs.Roles.{graphOf}
 use Rattle.graph.proofs.Meaning.{graph-admitted}
 use Rattle.sheet_writer.proofs.Judging.{graph-turned, buffer-turned, none-turned}
 use Rattle.sheet_writer.proofs.judge_write.Statement.{statement}

@@ -3,7 +3,7 @@ use borrow.Author.Needs.{needs}
 use lib.ListN.{length}
 use Rattle.rules.specs.Graphs.{Graph}
 use Rattle.rules.specs.declared.Judged.the-variants as Judgement
-use Rattle.graph.specs.Judging.{graphOf}
+use Rattle.words.specs.Roles.{graphOf}
 use Rattle.sheet_writer.specs.Writing.{writeJudged}
 use Rattle.sheet_writer.proofs.Judging.{write-admitted, none-written, all-written}
 use Rattle.sheet_writer.proofs.write.Statement.{statement}

@@ -3,10 +3,10 @@ use Prim.Native.Nat.{_+_, _-_, _≤_}
 use native.Mathlib.Omega.{arith}
 use borrow.Author.Needs.{needs}
 use lib.ListN.{length, take}
-use Rattle.sheet_writer.specs.Writing.{Put}
-use Rattle.sheet_writer.proofs.Putting.{put-long, put-taken, put-whole}
-use Rattle.sheet_writer.proofs.put_fixed.Statement.{statement}
-use Rattle.sheet_writer.proofs.put_fixed.Tie as tie
+use Rattle.lines.specs.Putting.{Put}
+use Rattle.lines.proofs.Putting.{put-long, put-taken, put-whole}
+use Rattle.lines.proofs.put_fixed.Statement.{statement}
+use Rattle.lines.proofs.put_fixed.Tie as tie
 
 abbrev Inv-loop : tie.InvT-loop
 Inv-loop text₀ at x k₀ text k = (k ≤ length x) × Put (take k x) text₀ text at (at + k)

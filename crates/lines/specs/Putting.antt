@@ -1,0 +1,11 @@
+-- A text that was put at a place of lent bytes.
+use mathlib.Core.Path.{_≡_}
+use mathlib.Core.List.{List}
+use Prim.Native.Nat.{ℕ, _+_}
+use lib.ListN.{length}
+use lib.Seq.{sets}
+
+-- The bytes then, and the place after the text t.
+pub record Put (t old now : List ℕ) (at next : ℕ) : Type 0 where
+  pub text : now ≡ sets old at t
+  pub after : next ≡ at + length t

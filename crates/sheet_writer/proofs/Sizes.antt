@@ -1,0 +1,65 @@
+-- A line of a sheet has at most ten bytes.
+use mathlib.Core.Path.{_≡_, refl, ap, _∙_}
+use mathlib.Core.Bool.{Bool, true, false}
+use mathlib.Core.List.{List}
+use Prim.Native.Nat.{ℕ, zero, suc, _+_, _*_, _/_, _≤_, _<_}
+use native.Mathlib.Omega.{arith}
+use borrow.Author.Tests.{ltb-true, ltb-false}
+use lib.Dec.{ltb}
+use lib.ListN.{length, length-append}
+use Rattle.rules.specs.Ranges.{joined}
+use Rattle.rules.specs.Graphs.{Graph, Admitted, checkDegree}
+use Rattle.rules.proofs.Rows.{rowed, row-entries}
+use Rattle.lines.specs.Numbers.{decimal}
+use Rattle.lines.specs.Lines.{pair, lineText, linesText}
+use Rattle.lines.proofs.Putting.{one-digit, more-digits}
+use Rattle.sheet_text.specs.Texts.{rowEntries, entriesOf}
+use Rattle.sheet_writer.specs.Theorems.{SheetsShort}
+use Rattle.sheet_writer.proofs.Texts.{line-long, entryLine, rowLines, row-lines, all-lines, sheet-long}
+
+-- one digit more for ten times as much
+digits-more : (k w d : ℕ) → (k / 10 < w → length (decimal (k / 10)) ≤ d) → k < 10 * w → length (decimal k) ≤ d + 1
+digits-more k w d ih h = go (ltb k 10) refl
+  where
+    go : (b : Bool) → ltb k 10 ≡ b → length (decimal k) ≤ d + 1
+    go true e = omega (arith, one-digit k (ltb-true k 10 e))
+    go false e = let l : 10 ≤ k = ltb-false k 10 e in omega (arith, more-digits k l, ih (omega arith))
+
+four-digits : (k : ℕ) → k ≤ 8192 → length (decimal k) ≤ 4
+four-digits k h =
+    digits-more k 1000 3 (digits-more (k / 10) 100 2 (digits-more (k / 10 / 10) 10 1 (λ l. omega (arith, one-digit (k / 10 / 10 / 10) l)))) (omega arith)
+
+line-short : (a b : ℕ) → a ≤ 8192 → b ≤ 8192 → length (lineText (pair a b)) ≤ 10
+line-short a b h k = omega (arith, line-long a b, four-digits a h, four-digits b k)
+
+-- lines one after the other
+joined-short : (f : ℕ → List ℕ) (n : ℕ) → ((k : ℕ) → k < n → length (f k) ≤ 10) → length (joined f n) ≤ 10 * n
+unfolding joined
+joined-short f zero h = omega arith
+joined-short f (suc n) h = rw length-append (omega (arith, joined-short f n (λ k l. h k (omega arith)), h n (omega arith)))
+
+module _ (G : Graph) (ad : Admitted G) where
+  row-short : (i : ℕ) → i < G .checks → length (rowLines G i) ≤ 10 * checkDegree G i
+  row-short i l = omega (arith, ap length (row-lines G i), joined-short (entryLine G i) (checkDegree G i) entry)
+    where
+      entry : (k : ℕ) → k < checkDegree G i → length (entryLine G i k) ≤ 10
+      entry k u =
+          let e : ℕ = G .start i + k in
+          let c = ad .within e (row-entries G (rowed ad) i e l (omega arith)) in
+          line-short i (G .column e) (omega (arith, ad .checks .1)) (omega (arith, ad .variables .1))
+
+  rows-short : (k : ℕ) → k ≤ G .checks → length (joined (rowLines G) k) ≤ 10 * G .start k
+  unfolding joined
+  rows-short zero h = omega (arith, ad .begins)
+  rows-short (suc k) h = rw length-append (omega (arith, rows-short k (omega arith), row-short k h, ad .checkDegrees k h))
+
+pub sheets-short : SheetsShort
+sheets-short G ad =
+    omega (
+      arith,
+      sheet-long G,
+      line-short (G .variables) (G .checks) (ad .variables .1) (ad .checks .1),
+      ap length (all-lines G),
+      rows-short G ad (G .checks) (omega arith),
+      ad .ends,
+    )
