@@ -1,13 +1,20 @@
-/* Decodes document 01's example and three inputs near it, as a scanner's host would. */
+/* Reads document 01's example sheet, decodes the example and three inputs near it on the lists that it gave, and writes the sheet back, as
+   a scanner's host would. Then a sheet that is refused, with its line. */
 #include <stdio.h>
+#include <string.h>
 
 #include "frame.h"
 
 enum { VARIABLES = 3, ENTRIES = 4 };
 
 /* Check 0 has variables 0 and 1, check 1 has 1 and 2. */
-static const uint8_t starts[] = {0, 0, 2, 0, 4, 0};
-static const uint8_t columns[] = {0, 0, 1, 0, 1, 0, 2, 0};
+static const char sheet[] = "variables checks\n3 2\ncheck variable\n0 0\n0 1\n1 1\n1 2\n";
+/* Its fifth line is not after its fourth. */
+static const char turned[] = "variables checks\n3 2\ncheck variable\n0 1\n0 0\n1 1\n1 2\n";
+
+/* Long enough for every sheet, and how much of it the sheet took. */
+static uint8_t starts[16386], columns[65536];
+static size_t variables, starts_length, columns_length;
 
 /* 2.5, -0.5, 1.5 */
 static const uint8_t example[] = {0, 0, 0x20, 0x40, 0, 0, 0, 0xbf, 0, 0, 0xc0, 0x3f};
@@ -15,18 +22,52 @@ static const uint8_t negated[] = {0, 0, 0x20, 0xc0, 0, 0, 0, 0x3f, 0, 0, 0xc0, 0
 /* 2.5, NaN, 1.5 */
 static const uint8_t damaged[] = {0, 0, 0x20, 0x40, 0, 0, 0xc0, 0x7f, 0, 0, 0xc0, 0x3f};
 
+static void refused(uint64_t answer, size_t place)
+{
+    printf("refusal place\n%u %lu\n", frame_refusal(answer), (unsigned long)place);
+}
+
+static void read_sheet(const char *given)
+{
+    const uint8_t *text = (const uint8_t *)given;
+    size_t length = strlen(given);
+
+    uint64_t answer = frame_read_sheet(text, length, starts, sizeof starts, columns, sizeof columns);
+    if (frame_refusal(answer) != 0) {
+        refused(answer, frame_read_sheet_place(text, length, sizeof starts, sizeof columns));
+        return;
+    }
+    variables = frame_variables(answer);
+    starts_length = 2 * (frame_checks(answer) + 1);
+    columns_length = 2 * frame_entries(answer);
+    printf("variables checks entries\n%u %u %u\n", frame_variables(answer), frame_checks(answer), frame_entries(answer));
+}
+
+static void write_sheet(void)
+{
+    uint8_t text[42 + 10 * ENTRIES];
+
+    uint64_t answer = frame_write_sheet(variables, starts, starts_length, columns, columns_length, text, sizeof text);
+    if (frame_refusal(answer) != 0) {
+        refused(answer, frame_write_sheet_place(variables, starts, starts_length, columns, columns_length, sizeof text));
+        return;
+    }
+    size_t length = frame_text_length(answer);
+    int same = length == strlen(sheet) && memcmp(text, sheet, length) == 0;
+    printf("sheet written\n%lu bytes, %s\n", (unsigned long)length, same ? "the same" : "another");
+}
+
 static void decode(const uint8_t *values, uint32_t limit)
 {
     uint8_t levels[VARIABLES], variable_messages[ENTRIES], check_messages[ENTRIES], sums[4 * VARIABLES], bits[VARIABLES];
 
-    uint64_t answer = frame_decode(VARIABLES, starts, sizeof starts, columns, sizeof columns, values, 4 * VARIABLES, FRAME_PLAIN, 1.0f,
+    uint64_t answer = frame_decode(variables, starts, starts_length, columns, columns_length, values, 4 * VARIABLES, FRAME_PLAIN, 1.0f,
                                    0.0f, 3, 3, 1, 1, 0, limit, levels, sizeof levels, variable_messages, sizeof variable_messages,
                                    check_messages, sizeof check_messages, sums, sizeof sums, bits, sizeof bits);
     if (frame_refusal(answer) != 0) {
-        size_t place = frame_decode_place(VARIABLES, starts, sizeof starts, columns, sizeof columns, values, 4 * VARIABLES, FRAME_PLAIN,
-                                          1.0f, 0.0f, 3, 3, 1, 1, 0, limit, sizeof levels, sizeof variable_messages,
-                                          sizeof check_messages, sizeof sums, sizeof bits);
-        printf("refusal place\n%u %zu\n", frame_refusal(answer), place);
+        refused(answer, frame_decode_place(variables, starts, starts_length, columns, columns_length, values, 4 * VARIABLES,
+                                           FRAME_PLAIN, 1.0f, 0.0f, 3, 3, 1, 1, 0, limit, sizeof levels, sizeof variable_messages,
+                                           sizeof check_messages, sizeof sums, sizeof bits));
         return;
     }
     printf("verdict iterations unsatisfied\n%s %u %u\nbits\n", frame_is_codeword(answer) ? "codeword" : "stopped",
@@ -39,9 +80,12 @@ static void decode(const uint8_t *values, uint32_t limit)
 
 int main(void)
 {
+    read_sheet(sheet);
     decode(example, 5);
     decode(negated, 5);
     decode(example, 0);
     decode(damaged, 5);
+    write_sheet();
+    read_sheet(turned);
     return 0;
 }

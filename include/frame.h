@@ -37,17 +37,52 @@ size_t frame_decode_place(size_t n, const uint8_t *starts, size_t starts_length,
                           uint32_t message, uint32_t phi_s, uint32_t phi_a, uint32_t phi_0, uint32_t limit, size_t levels_length,
                           size_t variable_messages_length, size_t check_messages_length, size_t sums_length, size_t bits_length);
 
-/* The number of the refusal, 0 where nothing is refused:
-   2 a count outside its limits; 3 a column not below n; 4 a column not above its predecessor in the row; 5 a degree outside its limits;
-   6 a lent buffer too short; 7 a bad start; 8 precisions not admitted; 9 an offset above 1 or limit above 255; 10 gain or variance not
-   finite and above zero, or another kind; 11 factor infinite or zero; 12 a value infinite or NaN; 13 other than n values. */
+/* Reads a code sheet, the bytes `text`, into the two lists of its graph.
+
+   Lent: starts, 2(m + 1) bytes, and columns, 2E bytes; 16,386 and 65,536 bytes are enough for every sheet. Afterwards they hold the
+   graph's row starts and columns, and bytes past these lengths are as they were. Decode and write take lists of just these lengths.
+   After a refusal every byte is as it was. The answer is taken apart by frame_refusal, frame_variables, frame_checks and frame_entries. */
+uint64_t frame_read_sheet(const uint8_t *text, size_t text_length, uint8_t *starts, size_t starts_length, uint8_t *columns,
+                          size_t columns_length);
+
+/* The place of the refusal that frame_read_sheet gives for the same text and lent lists of these lengths, a line counted from 1 for
+   1 to 4; 0 where it refuses nothing. */
+size_t frame_read_sheet_place(const uint8_t *text, size_t text_length, size_t starts_length, size_t columns_length);
+
+/* Writes the code sheet of a graph, given as for frame_decode.
+
+   Lent: text, as many bytes as the sheet has; 42 + 10E bytes are enough for every graph of E entries. Afterwards the sheet stands at its
+   front, and bytes past it are as they were. After a refusal every byte is as it was. The answer is taken apart by frame_refusal and
+   frame_text_length. */
+uint64_t frame_write_sheet(size_t n, const uint8_t *starts, size_t starts_length, const uint8_t *columns, size_t columns_length,
+                           uint8_t *text, size_t text_length);
+
+/* The place of the refusal that frame_write_sheet gives for the same graph and a lent text of this length; 0 where it refuses nothing. */
+size_t frame_write_sheet_place(size_t n, const uint8_t *starts, size_t starts_length, const uint8_t *columns, size_t columns_length,
+                               size_t text_length);
+
+/* The number of the refusal, 0 where nothing is refused. Of any call:
+   2 a count outside its limits, in a sheet also a 32,769th entry; 3 a column not below n, in a sheet a number out of range; 4 a column not
+   above its predecessor in the row, in a sheet an entry not after the one above; 5 a degree outside its limits; 6 a lent buffer too short.
+   Of read: 1 a line of another form, or a missing line or LF.
+   Of decode and write: 7 starts not beginning at 0, one below the start before it, or not ending at E.
+   Of decode: 8 precisions not admitted; 9 an offset above 1 or limit above 255; 10 gain or variance not finite and above zero, or another
+   kind; 11 factor infinite or zero; 12 a value infinite or NaN; 13 other than n values. */
 static inline unsigned frame_refusal(uint64_t answer) { return (unsigned)(answer & 255); }
 
-/* Where nothing is refused: whether the bits are a codeword, the number of the iteration where the run stopped, and how many checks
-   are unsatisfied there. */
+/* Of decode, where nothing is refused: whether the bits are a codeword, the number of the iteration where the run stopped, and how many
+   checks are unsatisfied there. */
 static inline int frame_is_codeword(uint64_t answer) { return (answer >> 8 & 255) == 0; }
 static inline unsigned frame_iterations(uint64_t answer) { return (unsigned)(answer >> 16 & 65535); }
 static inline unsigned frame_unsatisfied(uint64_t answer) { return (unsigned)(answer >> 32); }
+
+/* Of read, where nothing is refused: n, m and E. */
+static inline unsigned frame_variables(uint64_t answer) { return (unsigned)(answer >> 8 & 65535); }
+static inline unsigned frame_checks(uint64_t answer) { return (unsigned)(answer >> 24 & 65535); }
+static inline unsigned frame_entries(uint64_t answer) { return (unsigned)(answer >> 40); }
+
+/* Of write, where nothing is refused: the length of the text in bytes. */
+static inline size_t frame_text_length(uint64_t answer) { return (size_t)(answer >> 8); }
 
 #ifdef __cplusplus
 }

@@ -1,1 +1,2 @@
 pub mod Smallness
+pub mod SheetAnswers

@@ -1,9 +1,11 @@
 -- The answers of the C entries, each packed into one number.
 use mathlib.Core.Path.{_≡_}
 use mathlib.Core.Bool.{cond}
+use mathlib.Core.List.{List}
 use Prim.Native.Nat.{ℕ, _+_, _*_, _≤_}
 use lib.Dec.{eqb}
 use lib.Ieee.{Float, binary32, ofBits}
+use Rattle.rules.specs.Graphs.{Graph}
 use Rattle.rules.specs.Refusals.{paper}
 use Rattle.rules.specs.declared.Judged.{Judged}
 use Rattle.rules.specs.declared.Judged.the-variants as Judgement
@@ -14,6 +16,12 @@ use Rattle.channel.specs.declared.Scaling.the-variants.{Plain, Noise}
 use Rattle.decoder.specs.declared.Decoded.{Decoded}
 use Rattle.decoder.specs.declared.Decoded.the-variants as Answer
 use Rattle.decoder.specs.Decoding.{Frame, Memory, roomOf, decodeJudged, decoded, memoryAfter}
+use Rattle.sheet.specs.Reading.{Reading, answerOf, startsOf, columnsOf}
+use Rattle.sheet.specs.declared.Sheet.{Sheet}
+use Rattle.sheet.specs.declared.Sheet.the-variants as Reads
+use Rattle.sheet_writer.specs.Writing.{writeAnswer, writtenIn}
+use Rattle.sheet_writer.specs.declared.Written.{Written}
+use Rattle.sheet_writer.specs.declared.Written.the-variants as Writes
 
 -- 'Kind 0 is a plain gain (variance unread), 1 a gain with variance; another kind gets 10', in 10's place of the order, as a gain of zero does.
 abbrev pub scalingOf : ℕ → Float → Float → Scaling
@@ -39,7 +47,40 @@ pub record HostDecodes (F : Frame) (M M′ : Memory) (r : ℕ) : Type 0 where
   pub answer : r ≡ packDecoded (decoded F (decodeJudged F (roomOf M)))
   pub memory : M′ ≡ memoryAfter F (decodeJudged F (roomOf M)) M
 
--- Numbers that fit their places.
+-- ---- sheets
+
+-- Read: a byte for the refusal's number, two bytes for n, two for m, three for E.
+abbrev pub packRead : Sheet → ℕ
+packRead (Reads.Refused r) = paper r .number
+packRead (Reads.Read k) = 256 * k .variables + 16777216 * k .checks + 1099511627776 * k .entries
+
+-- Write: a byte for the refusal's number, seven for the text's length.
+abbrev pub packWritten : Written → ℕ
+packWritten (Writes.Refused r) = paper r .number
+packWritten (Writes.Length size) = 256 * size
+
+-- What the entry for reading promises of its answer r and of both lists, before and after, where x is what reading the text gives.
+pub record HostReads (x : Reading) (s s′ c c′ : List ℕ) (r : ℕ) : Type 0 where
+  pub answer : r ≡ packRead (answerOf x)
+  pub starts : s′ ≡ startsOf x s
+  pub columns : c′ ≡ columnsOf x c
+
+-- What the entry for writing promises of its answer r and of the text, before and after, where j is what is refused of the graph G.
+pub record HostWrites (j : Judged) (G : Graph) (old now : List ℕ) (r : ℕ) : Type 0 where
+  pub answer : r ≡ packWritten (writeAnswer j G)
+  pub text : now ≡ writtenIn j G old
+
+-- ---- numbers that fit their places
+
 abbrev pub Small : Decoded → Type 0
 Small (Answer.Refused r) = 0 ≤ 0
 Small (Answer.Ran r) = (r .iterations ≤ 255) × (r .unsatisfied ≤ 8192)
+
+abbrev pub SmallRead : Sheet → Type 0
+SmallRead (Reads.Refused r) = 0 ≤ 0
+SmallRead (Reads.Read k) = (k .variables ≤ 8192) × (k .checks ≤ 8192) × (k .entries ≤ 32768)
+
+-- 42 + 10 × 32,768 bytes, as SheetsShort has it.
+abbrev pub SmallWritten : Written → Type 0
+SmallWritten (Writes.Refused r) = 0 ≤ 0
+SmallWritten (Writes.Length size) = size ≤ 327722

@@ -8,6 +8,8 @@ use channel::Scaling;
 use decoder::Decoded;
 use rules::Verdict;
 
+pub mod sheets; // the entries for code sheets
+
 // The scaling of a kind; another kind than 0 and 1 is turned down as a gain of zero is.
 fn scaling_of(kind: u32, gain: f32, variance: f32) -> Scaling
     ensures { λ r. ⌜ r ≡ scalingOf kind gain variance ⌝ }

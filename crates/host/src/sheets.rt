@@ -1,0 +1,96 @@
+// The entries for code sheets.
+ghost use mathlib.Core.Path.{_≡_};
+ghost use lib.ListN.{length};
+ghost use Rattle.words.specs.Roles.{graphOf};
+ghost use Rattle.sheet.specs.Reading.{sheetRead, readJudged};
+ghost use Rattle.sheet_writer.specs.Writing.{writeJudged};
+ghost use Rattle.host.specs.Packing.{placeOf, packRead, packWritten, HostReads, HostWrites, SmallRead, SmallWritten};
+use rules::Judged;
+use sheet::Sheet;
+use sheet_writer::Written;
+
+// The place of what is refused, 0 where nothing is.
+fn place_of(j: Judged) -> usize
+    ensures { λ r. ⌜ r ≡ placeOf j ⌝ }
+{
+    match j {
+        Judged::Admitted => 0,
+        Judged::Refused(r) => {
+            let k = r.numbered();
+            k.place
+        }
+    }
+}
+
+// The answer of reading a sheet as one number.
+fn pack_read(s: Sheet) -> u64
+    requires { ⌜ SmallRead s ⌝ }
+    ensures { λ r. ⌜ r ≡ packRead s ⌝ }
+{
+    match s {
+        Sheet::Refused(r) => {
+            let k = r.numbered();
+            k.number as u64
+        }
+        Sheet::Read(k) => {
+            256 * (k.variables as u64)
+                + 16777216 * (k.checks as u64)
+                + 1099511627776 * (k.entries as u64)
+        }
+    }
+}
+
+// The answer of writing a sheet as one number.
+fn pack_written(w: Written) -> u64
+    requires { ⌜ SmallWritten w ⌝ }
+    ensures { λ r. ⌜ r ≡ packWritten w ⌝ }
+{
+    match w {
+        Written::Refused(r) => {
+            let k = r.numbered();
+            k.number as u64
+        }
+        Written::Length(size) => 256 * (size as u64),
+    }
+}
+
+// Reads a sheet into the lists of its graph.
+#[no_mangle]
+pub extern "C" fn frame_read_sheet(text: &[u8], starts: &mut [u8], columns: &mut [u8]) -> u64
+    ensures { λ r. ⌜ HostReads (sheetRead (now (text .entry)) (length (now (starts .entry))) (length (now (columns .entry)))) (now (starts .entry)) (now (starts .exit)) (now (columns .entry)) (now (columns .exit)) r ⌝ }
+{
+    let s = sheet::read(text, starts, columns);
+    pack_read(s)
+}
+
+// The place of what `frame_read_sheet` refuses for lists of these lengths, 0 where it refuses nothing.
+#[no_mangle]
+pub extern "C" fn frame_read_sheet_place(text: &[u8], starts: usize, columns: usize) -> usize
+    ensures { λ r. ⌜ r ≡ placeOf (readJudged (sheetRead (now (text .entry)) starts columns)) ⌝ }
+{
+    let j = sheet::judge_read(text, starts, columns);
+    place_of(j)
+}
+
+// Writes the sheet of a graph.
+#[no_mangle]
+pub extern "C" fn frame_write_sheet(n: usize, starts: &[u8], columns: &[u8], text: &mut [u8]) -> u64
+    ensures { λ r. ⌜ HostWrites (writeJudged (graphOf n (now (starts .entry)) (now (columns .entry))) (length (now (text .entry)))) (graphOf n (now (starts .entry)) (now (columns .entry))) (now (text .entry)) (now (text .exit)) r ⌝ }
+{
+    let w = sheet_writer::write(n, starts, columns, text);
+    pack_written(w)
+}
+
+// The place of what `frame_write_sheet` refuses for a text of this length, 0 where it refuses nothing.
+#[no_mangle]
+pub extern "C" fn frame_write_sheet_place(
+    n: usize,
+    starts: &[u8],
+    columns: &[u8],
+    text: usize,
+) -> usize
+    ensures { λ r. ⌜ r ≡ placeOf (writeJudged (graphOf n (now (starts .entry)) (now (columns .entry))) text) ⌝ }
+{
+    let j = sheet_writer::judge_write(n, starts, columns, text);
+    place_of(j)
+}
