@@ -1,0 +1,88 @@
+-- What decode gives, lent enough memory, as the printed text.
+use mathlib.Core.Path.{_≡_, refl, sym, ap, ap₂, _∙_}
+use mathlib.Core.Bool.{true}
+use mathlib.Core.List.{List, map}
+use Prim.Native.Nat.{ℕ, zero, suc, _*_, _≤_}
+use native.Mathlib.Omega.{arith}
+use borrow.Author.Tests.{le-leb}
+use lib.ListN.{length, take, drop, length-map}
+use lib.Seq.{take-at}
+use Rattle.rules.specs.Ranges.{one}
+use Rattle.rules.specs.Graphs.{Graph}
+use Rattle.rules.specs.Sequence.{Scheme, state, begun, next, iterated, stop, final, report}
+use Rattle.rules.specs.Refusals.{orElse}
+use Rattle.rules.specs.declared.Refusal.{Refusal}
+use Rattle.rules.specs.declared.Report.{Report}
+use Rattle.rules.specs.declared.Judged.{Judged}
+use Rattle.rules.specs.declared.Judged.the-variants as Judgement
+use Rattle.rules.proofs.Ranges.{length-tabulate}
+use Rattle.decoder.specs.declared.Decoded.{Decoded}
+use Rattle.decoder.specs.declared.Decoded.the-variants.{Ran, Refused}
+use Rattle.decoder.specs.Decoding.{Frame, Memory, Room, roomOf, enough, graph, scheme, frameJudged, decodeJudged, decoded, memoryAfter, Decodes}
+use Rattle.printing.specs.Texts.{reportText, refusalText, longest, Prints}
+use Rattle.program.specs.Answering.{judgedText, frameText}
+use Rattle.printing.proofs.Parts.{prints-as}
+
+-- as many bits as variables
+state-bits : (G : Graph) (R : Scheme) (t : ℕ) → length (state G R t .bits) ≡ G .variables
+unfolding state begun next iterated
+state-bits G R zero = length-tabulate (R .firstBit) (G .variables)
+state-bits G R (suc t) = length-tabulate _ (G .variables)
+
+final-bits : (G : Graph) (R : Scheme) (limit : ℕ) → length (final G R limit .bits) ≡ G .variables
+unfolding final
+final-bits G R limit = state-bits G R (stop G R limit)
+
+-- decode refuses no buffer
+none-short : (j : Judged) → orElse j Judgement.Admitted ≡ j
+none-short Judgement.Admitted = refl
+none-short (Judgement.Refused r) = refl
+
+pub record Lent (F : Frame) (m : Room) : Type 0 where
+  pub levels : F .variables ≤ m .levels
+  pub variableMessages : graph F .entries ≤ m .variableMessages
+  pub checkMessages : graph F .entries ≤ m .checkMessages
+  pub sums : 4 * F .variables ≤ m .sums
+  pub bits : F .variables ≤ m .bits
+
+lent-judged : (F : Frame) (m : Room) → Lent F m → decodeJudged F m ≡ frameJudged F
+unfolding decodeJudged
+lent-judged F m l =
+    let e : enough (F .variables) (graph F .entries) m ≡ true
+    = rw (le-leb _ _ (l .levels), le-leb _ _ (l .variableMessages), le-leb _ _ (l .checkMessages), le-leb _ _ (l .sums), le-leb _ _ (l .bits)) in
+    rw e (none-short (frameJudged F))
+
+module _ {F : Frame} {M M′ : Memory} {d : Decoded} (w : Decodes F M M′ d) (l : Lent F (roomOf M)) where
+  answer-is : d ≡ decoded F (frameJudged F)
+  answer-is = w .answer ∙ ap (decoded F) (lent-judged F (roomOf M) l)
+
+  memory-is : M′ ≡ memoryAfter F (frameJudged F) M
+  memory-is = w .memory ∙ ap (λ (j : Judged). memoryAfter F j M) (lent-judged F (roomOf M) l)
+
+  frame-refused : {r : Refusal} → d ≡ Refused r → frameText F ≡ refusalText r
+  unfolding frameText
+  frame-refused {r} e = go (frameJudged F) (sym answer-is ∙ e)
+    where
+      go : (j : Judged) → decoded F j ≡ Refused r → judgedText F j ≡ refusalText r
+      go Judgement.Admitted q = let z : _≡_ {A = ℕ} 0 1 = cc in absurd (omega arith)
+      go (Judgement.Refused s) q = let u : s ≡ r = cc in ap refusalText u
+
+  frame-ran : {r : Report} → d ≡ Ran r → frameText F ≡ reportText r (take (F .variables) (M′ .bits))
+  unfolding frameText
+  frame-ran {r} e = go (frameJudged F) (sym answer-is ∙ e) memory-is
+    where
+      go : (j : Judged) → decoded F j ≡ Ran r → M′ ≡ memoryAfter F j M → judgedText F j ≡ reportText r (take (F .variables) (M′ .bits))
+      go Judgement.Admitted q m =
+          let b : List ℕ = map one (final (graph F) (scheme F) (F .limit) .bits) in
+          let u : report (graph F) (scheme F) (F .limit) ≡ r = cc in
+          let n : length b ≡ F .variables = length-map (final (graph F) (scheme F) (F .limit) .bits) one ∙ final-bits (graph F) (scheme F) (F .limit) in
+          let v : take (F .variables) (M′ .bits) ≡ b = ap (λ (x : Memory). take (F .variables) (x .bits)) m ∙ take-at b (drop (F .variables) (M .bits)) (F .variables) n in
+          ap₂ reportText u (sym v)
+      go (Judgement.Refused s) q m = let z : _≡_ {A = ℕ} 0 1 = cc in absurd (omega arith)
+
+  module _ {n : ℕ} {old now : List ℕ} where
+    pub refused-prints : {r : Refusal} → d ≡ Refused r → Prints longest (refusalText r) old now n → Prints longest (frameText F) old now n
+    refused-prints e p = prints-as (sym (frame-refused e)) p
+
+    pub ran-prints : {r : Report} → d ≡ Ran r → Prints longest (reportText r (take (F .variables) (M′ .bits))) old now n → Prints longest (frameText F) old now n
+    ran-prints e p = prints-as (sym (frame-ran e)) p

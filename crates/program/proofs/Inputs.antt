@@ -1,0 +1,123 @@
+-- What the sheet and the run text give, as the printed text.
+use mathlib.Core.Path.{_≡_, refl, sym, ap, ap₂, _∙_, subst}
+use mathlib.Core.List.{List, [], _++_}
+use Prim.Native.Nat.{ℕ, suc, _+_, _*_, _≤_, _<_}
+use native.Mathlib.Omega.{arith}
+use borrow.Author.Tests.{le-leb, lt-leb}
+use lib.ListN.{length, take, drop}
+use lib.Seq.{take-at}
+use Rattle.rules.specs.Graphs.{Graph, Admitted}
+use Rattle.rules.specs.declared.Refusal.{Refusal}
+use Rattle.rules.specs.declared.Refusal.the-variants as Refusals
+use Rattle.words.specs.Words.{table}
+use Rattle.words.proofs.Words.{length-table}
+use Rattle.lines.proofs.Putting.{put-front}
+use Rattle.sheet_text.specs.declared.Counts.{Counts}
+use Rattle.sheet.specs.declared.Sheet.{Sheet}
+use Rattle.sheet.specs.declared.Sheet.the-variants as Sheets
+use Rattle.sheet.specs.Reading as Sheet
+use Rattle.sheet.specs.Reading.{Reading, sheetRead}
+use Rattle.sheet.proofs.Texts.{texts-and-graphs}
+use Rattle.run_text.specs.declared.Given.{Given}
+use Rattle.run_text.specs.declared.Run.{Run}
+use Rattle.run_text.specs.declared.Run.the-variants as Runs
+use Rattle.run_text.specs.Reading as Run
+use Rattle.run_text.specs.Reading.{RunText, runText}
+use Rattle.run_text.proofs.Lengths.{run-long}
+use Rattle.printing.specs.Texts.{refusalText, longest, Prints}
+use Rattle.program.specs.Answering.{frameText, frameOf, afterRun, afterSheet, programText, Answers}
+
+-- ---- the run text
+
+module _ (n : ℕ) (s starts columns : List ℕ) {r : Run} {old now : List ℕ} (w : Run.ReadAs (runText n s) r old now) where
+  pub run-refused : {l : ℕ} → r ≡ Runs.Refused l → refusalText (Refusals.RunText l) ≡ afterRun n starts columns (runText n s)
+  run-refused {l} e = go (runText n s) (sym (w .answer) ∙ e)
+    where
+      go : (x : RunText) → Run.answerOf x ≡ Runs.Refused l → refusalText (Refusals.RunText l) ≡ afterRun n starts columns x
+      go (Run.refused k) q = let u : l ≡ k = cc in ap (λ (j : ℕ). refusalText (Refusals.RunText j)) u
+      go (Run.read g v) q = let z : _≡_ {A = ℕ} 0 1 = cc in absurd (omega arith)
+
+  pub run-given : {g : Given} → r ≡ Runs.Read g → frameText (frameOf n starts columns g (take (4 * n) now)) ≡ afterRun n starts columns (runText n s)
+  run-given {g} e = go (runText n s) refl (sym (w .answer) ∙ e) (w .values)
+    where
+      go : (x : RunText) → runText n s ≡ x → Run.answerOf x ≡ Runs.Read g → now ≡ Run.valuesIn x old
+          → frameText (frameOf n starts columns g (take (4 * n) now)) ≡ afterRun n starts columns x
+      go (Run.refused k) f q h = let z : _≡_ {A = ℕ} 0 1 = cc in absurd (omega arith)
+      go (Run.read k v) f q h =
+          let u : g ≡ k = cc in
+          let m : take (4 * n) now ≡ v = ap (take (4 * n)) h ∙ take-at v (drop (length v) old) (4 * n) (run-long n s k v f) in
+          ap₂ (λ (x : Given) (y : List ℕ). frameText (frameOf n starts columns x y)) u m
+
+-- ---- the sheet
+
+-- the counts and the lists of the graph that was read
+pub record GraphIn (t : List ℕ) (k : Counts) (starts columns : List ℕ) : Type 0 where
+  pub variables : k .variables ≤ 8192
+  pub checks : k .checks ≤ 8192
+  pub entries : k .entries ≤ 32768
+  pub text : (run : List ℕ) → afterRun (k .variables) (take (2 * (k .checks + 1)) starts) (take (2 * k .entries) columns) (runText (k .variables) run)
+      ≡ afterSheet (sheetRead t 16386 65536) run
+
+graph-in : (t : List ℕ) (G : Graph) (st co : List ℕ) → sheetRead t 16386 65536 ≡ Sheet.graph G
+    → GraphIn t (record { variables = G .variables; checks = G .checks; entries = G .entries }) (Sheet.startsOf (Sheet.graph G) st) (Sheet.columnsOf (Sheet.graph G) co)
+graph-in t G st co e =
+    let a : Admitted G = texts-and-graphs .accepted t 16386 65536 G e .0 in
+    let s : take (2 * (G .checks + 1)) (table 2 (G .start) (suc (G .checks)) ++ drop (2 * suc (G .checks)) st) ≡ table 2 (G .start) (suc (G .checks))
+    = take-at (table 2 (G .start) (suc (G .checks))) (drop (2 * suc (G .checks)) st) (2 * (G .checks + 1)) (length-table 2 (G .start) (suc (G .checks)) ∙ omega arith) in
+    let c : take (2 * G .entries) (table 2 (G .column) (G .entries) ++ drop (2 * G .entries) co) ≡ table 2 (G .column) (G .entries)
+    = take-at (table 2 (G .column) (G .entries)) (drop (2 * G .entries) co) (2 * G .entries) (length-table 2 (G .column) (G .entries)) in
+    record {
+      variables = a .variables .1;
+      checks = a .checks .1;
+      entries = a .entries;
+      text =
+          λ run. ap₂ (λ (x y : List ℕ). afterRun (G .variables) x y (runText (G .variables) run)) s c
+          ∙ sym (ap (λ (x : Reading). afterSheet x run) e);
+    }
+
+module _ (t : List ℕ) {r : Sheet} {st st′ co co′ : List ℕ} (w : Sheet.ReadAs (sheetRead t (length st) (length co)) r st st′ co co′)
+    (ls : length st ≡ 16386) (lc : length co ≡ 65536) where
+  read-as : Sheet.ReadAs (sheetRead t 16386 65536) r st st′ co co′
+  read-as = subst (λ (x : Reading). Sheet.ReadAs x r st st′ co co′) (ap₂ (sheetRead t) ls lc) w
+
+  pub sheet-refused : {x : Refusal} → r ≡ Sheets.Refused x → (run : List ℕ) → refusalText x ≡ afterSheet (sheetRead t 16386 65536) run
+  sheet-refused {x} e run = go (sheetRead t 16386 65536) (sym (read-as .answer) ∙ e)
+    where
+      go : (y : Reading) → Sheet.answerOf y ≡ Sheets.Refused x → refusalText x ≡ afterSheet y run
+      go (Sheet.turned s) q = let u : x ≡ s = cc in ap refusalText u
+      go (Sheet.graph G) q = let z : _≡_ {A = ℕ} 0 1 = cc in absurd (omega arith)
+
+  pub sheet-graph : {k : Counts} → r ≡ Sheets.Read k → GraphIn t k st′ co′
+  sheet-graph {k} e = go (sheetRead t 16386 65536) refl (sym (read-as .answer) ∙ e) (read-as .starts) (read-as .columns)
+    where
+      go : (y : Reading) → sheetRead t 16386 65536 ≡ y → Sheet.answerOf y ≡ Sheets.Read k → st′ ≡ Sheet.startsOf y st → co′ ≡ Sheet.columnsOf y co
+          → GraphIn t k st′ co′
+      go (Sheet.turned s) f q a b = let z : _≡_ {A = ℕ} 0 1 = cc in absurd (omega arith)
+      go (Sheet.graph G) f q a b =
+          let u : record { variables = G .variables; checks = G .checks; entries = G .entries } ≡ k = cc in
+          subst (λ (x : Counts). GraphIn t x st′ co′) u
+          (subst (λ (x : List ℕ). GraphIn t (record { variables = G .variables; checks = G .checks; entries = G .entries }) x co′) (sym a)
+          (subst (λ (x : List ℕ). GraphIn t (record { variables = G .variables; checks = G .checks; entries = G .entries }) (Sheet.startsOf (Sheet.graph G) st) x) (sym b)
+          (graph-in t G st co f)))
+
+-- ---- the whole answer
+
+module _ (sheet run : List ℕ) where
+  pub program-large : 65536 < length sheet → refusalText (Refusals.Count 0) ≡ programText sheet run
+  unfolding programText
+  program-large h = sym (rw (lt-leb (length sheet) 65536 h))
+
+  pub program-small : length sheet ≤ 65536 → afterSheet (sheetRead sheet 16386 65536) run ≡ programText sheet run
+  unfolding programText
+  program-small h = sym (rw (le-leb (length sheet) 65536 h))
+
+  pub answer-none : {old : List ℕ} → length old < longest → Answers sheet run old old 0
+  answer-none {old} h = record { text = []; is = sym (rw (lt-leb longest (length old) h)); holds = refl; long = refl }
+
+  pub answer-put : {t old now : List ℕ} {r : ℕ} → longest ≤ length old → t ≡ programText sheet run → Prints longest t old now r → Answers sheet run old now r
+  answer-put {t} {old} {now} {r} h e p = record {
+    text = t;
+    is = e ∙ sym (rw (le-leb longest (length old) h));
+    holds = put-front (omega (arith, p .put .after, p .short)) (p .put);
+    long = omega (arith, p .put .after);
+  }

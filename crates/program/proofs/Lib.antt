@@ -1,0 +1,4 @@
+pub mod Frames
+pub mod Inputs
+pub mod Within
+pub mod Trying

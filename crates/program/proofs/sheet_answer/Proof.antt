@@ -1,0 +1,97 @@
+use mathlib.Core.Path.{_≡_, sym}
+use Prim.Native.Nat.{_+_, _*_}
+use lib.ListN.{length, take}
+use lib.Seq.{length-take-le}
+use Rattle.printing.proofs.Parts.{prints-as}
+use Rattle.program.proofs.Inputs.{GraphIn, sheet-refused, sheet-graph}
+use native.Mathlib.Omega.{arith}
+use borrow.Author.Needs.{needs}
+use Rattle.program.proofs.sheet_answer.Statement.{statement}
+use Rattle.program.proofs.sheet_answer.Tie as tie
+
+-- the graph that was read
+graph-read : (c : tie.After-x2) → GraphIn (c .before .before .before .before .before .before .before .before .before .before .args .sheet .now) (c .x2 .given .0 .0) (c .before .before .before .before .read .last .1 .0) (c .before .before .before .before .read .last .1 .1 .0)
+graph-read c = sheet-graph (c .before .before .before .before .before .before .before .before .before .before .args .sheet .now) (c .before .before .before .before .read .ensures) (omega arith) (omega arith) (c .x2 .given .1)
+
+starts-long : (c : tie.After-x2) → length (take (2 * (c .x2 .given .0 .0 .checks + 1)) (c .before .before .before .before .read .last .1 .0)) ≡ 2 * (c .x2 .given .0 .0 .checks + 1)
+starts-long c = length-take-le (2 * (c .x2 .given .0 .0 .checks + 1)) (c .before .before .before .before .read .last .1 .0) (omega (arith, graph-read c .checks, c .before .before .before .starts2 .given))
+
+columns-long : (c : tie.After-x2) → length (take (2 * c .x2 .given .0 .0 .entries) (c .before .before .before .before .read .last .1 .1 .0)) ≡ 2 * c .x2 .given .0 .0 .entries
+columns-long c = length-take-le (2 * c .x2 .given .0 .0 .entries) (c .before .before .before .before .read .last .1 .1 .0) (omega (arith, graph-read c .entries, c .before .before .columns2 .given))
+
+slice-aggregate-read : tie.Need-slice-aggregate-read
+slice-aggregate-read c = search needs
+
+slice-aggregate-read-2 : tie.Need-slice-aggregate-read-2
+slice-aggregate-read-2 c = search needs
+
+read-requires : tie.Need-read-requires
+read-requires c κs = search needs
+
+enum-known-x : tie.Need-enum-known-x
+enum-known-x c = search needs
+
+put-refusal-requires : tie.Need-put-refusal-requires
+put-refusal-requires c κs = search needs
+
+enum-known-x-2 : tie.Need-enum-known-x-2
+enum-known-x-2 c = search needs
+
+add-s : tie.Need-add-s
+add-s c = omega (arith, graph-read (c .before .before) .checks)
+
+mul-s : tie.Need-mul-s
+mul-s c = omega (arith, graph-read (c .before .before) .checks)
+
+mul-c : tie.Need-mul-c
+mul-c c = omega (arith, graph-read (c .before .before .before) .entries)
+
+array-share-prefix-starts : tie.Need-array-share-prefix-starts
+array-share-prefix-starts c = omega (arith, graph-read (c .before .before .before) .checks, c .before .before .before .before .before .before .starts2 .given)
+
+slice-aggregate-run-answer : tie.Need-slice-aggregate-run-answer
+slice-aggregate-run-answer c = sym (starts-long (c .before .before .before .before))
+
+array-share-prefix-columns : tie.Need-array-share-prefix-columns
+array-share-prefix-columns c = omega (arith, graph-read (c .before .before .before .before) .entries, c .before .before .before .before .before .before .columns2 .given)
+
+slice-aggregate-run-answer-2 : tie.Need-slice-aggregate-run-answer-2
+slice-aggregate-run-answer-2 c = sym (columns-long (c .before .before .before .before .before))
+
+run-answer-requires : tie.Need-run-answer-requires
+run-answer-requires c κs = (graph-read (c .before .before .before .before .before .before) .variables, omega (arith, graph-read (c .before .before .before .before .before .before) .entries, columns-long (c .before .before .before .before .before .before)), omega arith)
+
+same-length : tie.Need-same-length
+same-length c = search needs
+
+returns : tie.Need-returns
+returns c = prints-as (sheet-refused (c .before .before .before .before .before .before .before .before .before .before .before .before .before .before .before .args .sheet .now) (c .before .before .before .before .before .before .before .before .before .read .ensures) (omega arith) (omega arith) (c .before .before .before .before .before .x .given .1) (c .before .before .before .before .before .before .before .before .before .before .before .before .before .before .before .args .run .now)) (c .before .before .put-refusal .ensures)
+
+same-length-2 : tie.Need-same-length-2
+same-length-2 c = search needs
+
+returns-2 : tie.Need-returns-2
+returns-2 c = prints-as (graph-read (c .before .before .before .before .before .before .before .before .before) .text (c .before .before .before .before .before .before .before .before .before .before .before .before .before .before .before .before .before .before .before .args .run .now)) (c .before .before .run-answer .ensures)
+
+pub sheet-answer-spec : {M : Type 1} → statement M
+sheet-answer-spec =
+    tie.close
+    (tie.spec
+    slice-aggregate-read
+    slice-aggregate-read-2
+    read-requires
+    enum-known-x
+    put-refusal-requires
+    enum-known-x-2
+    add-s
+    mul-s
+    mul-c
+    array-share-prefix-starts
+    slice-aggregate-run-answer
+    array-share-prefix-columns
+    slice-aggregate-run-answer-2
+    run-answer-requires
+    same-length
+    returns
+    same-length-2
+    returns-2)

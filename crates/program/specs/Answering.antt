@@ -1,0 +1,58 @@
+-- Document 01, 'The program': what `frame` prints for the bytes of the sheet and of the run text.
+use mathlib.Core.Path.{_≡_}
+use mathlib.Core.Bool.{cond}
+use mathlib.Core.List.{List, [], _++_, map}
+use Prim.Native.Nat.{ℕ, suc}
+use lib.Dec.{leb}
+use lib.ListN.{length, drop}
+use Rattle.rules.specs.Ranges.{one}
+use Rattle.rules.specs.Sequence.{final, report}
+use Rattle.rules.specs.declared.Refusal.the-variants.{Count, RunText}
+use Rattle.rules.specs.declared.Judged.{Judged}
+use Rattle.rules.specs.declared.Judged.the-variants as Judgement
+use Rattle.words.specs.Words.{table}
+use Rattle.decoder.specs.Decoding.{Frame, graph, scheme, frameJudged}
+use Rattle.decoder.specs.Frames.{frame}
+use Rattle.sheet.specs.Reading as Sheet
+use Rattle.sheet.specs.Reading.{sheetRead}
+use Rattle.run_text.specs.Reading as Run
+use Rattle.run_text.specs.Reading.{runText}
+use Rattle.run_text.specs.declared.Given.{Given}
+use Rattle.printing.specs.Texts.{reportText, refusalText, longest}
+
+-- 'Then decode's': its refusals, but for 6, since enough memory is lent; or the report and the bits of the run.
+abbrev pub judgedText : Frame → Judged → List ℕ
+judgedText F Judgement.Admitted = reportText (report (graph F) (scheme F) (F .limit)) (map one (final (graph F) (scheme F) (F .limit) .bits))
+judgedText F (Judgement.Refused r) = refusalText r
+
+unfoldable pub frameText : Frame → List ℕ
+frameText F = judgedText F (frameJudged F)
+
+-- The frame of n variables, the two lists of the graph, and what the run text gives.
+abbrev pub frameOf : ℕ → List ℕ → List ℕ → Given → List ℕ → Frame
+frameOf n starts columns g values =
+    frame n starts columns values (g .scaling) (g .channel) (g .message) (g .«phi_s») (g .«phi_a») (g .«phi_0») (g .limit)
+
+-- '14, run text oversized (0), else the first line that is of other form, missing, extra or without LF (its line).'
+abbrev pub afterRun : ℕ → List ℕ → List ℕ → Run.RunText → List ℕ
+afterRun n starts columns (Run.refused l) = refusalText (RunText l)
+afterRun n starts columns (Run.read g values) = frameText (frameOf n starts columns g values)
+
+-- 'The sheet's.' The graph's lists are m + 1 starts and E columns, two bytes each.
+abbrev pub afterSheet : Sheet.Reading → List ℕ → List ℕ
+afterSheet (Sheet.turned r) run = refusalText r
+afterSheet (Sheet.graph G) run =
+    afterRun (G .variables) (table 2 (G .start) (suc (G .checks))) (table 2 (G .column) (G .entries)) (runText (G .variables) run)
+
+-- '2 for an oversized file': 'either may have 65,536 bytes'. 16,386 and 65,536 bytes hold the lists of every admitted graph.
+unfoldable pub programText : List ℕ → List ℕ → List ℕ
+programText sheet run = cond (leb (length sheet) 65536) (afterSheet (sheetRead sheet 16386 65536) run) (refusalText (Count 0))
+
+-- ---- the text in lent memory
+
+-- The text at the front and its length, the bytes past it unchanged. Nothing, where fewer than `longest` bytes are lent.
+pub record Answers (sheet run old now : List ℕ) (r : ℕ) : Type 0 where
+  pub text : List ℕ
+  pub is : text ≡ cond (leb longest (length old)) (programText sheet run) []
+  pub holds : now ≡ text ++ drop (length text) old
+  pub long : r ≡ length text

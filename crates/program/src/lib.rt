@@ -1,0 +1,103 @@
+// The program's whole answer, as a function of the bytes of the sheet and of the run text.
+ghost use Prim.Native.Nat.{_/_, _≤_};
+ghost use lib.ListN.{length};
+ghost use Rattle.run_text.specs.Reading.{runText};
+ghost use Rattle.sheet.specs.Reading.{sheetRead};
+ghost use Rattle.printing.specs.Texts.{longest, Prints};
+ghost use Rattle.program.specs.Answering.{frameText, frameOf, afterRun, afterSheet, Answers};
+use decoder::Decoded;
+use printing::put_refusal;
+use printing::put_report;
+use rules::Refusal;
+use run_text::Given;
+use run_text::Run;
+use sheet::Sheet;
+
+// Decodes, and puts what comes of it.
+fn decode_answer(
+    n: usize,
+    starts: &[u8],
+    columns: &[u8],
+    values: &[u8],
+    g: Given,
+    out: &mut [u8],
+) -> usize
+    requires { ⌜ (n ≤ 8192) × (length (now columns) / 2 ≤ 32768) × (longest ≤ length (now out)) ⌝ }
+    ensures { λ r. ⌜ Prints longest (frameText (frameOf n (now (starts .entry)) (now (columns .entry)) g (now (values .entry)))) (now (out .entry)) (now (out .exit)) r ⌝ }
+{
+    let mut levels = [0u8; 8192];
+    let mut variable_messages = [0u8; 32768];
+    let mut check_messages = [0u8; 32768];
+    let mut sums = [0u8; 32768];
+    let mut bits = [0u8; 8192];
+    let scaling = g.scaling;
+    let d = decoder::decode(
+        n,
+        starts,
+        columns,
+        values,
+        scaling,
+        g.channel,
+        g.message,
+        g.phi_s,
+        g.phi_a,
+        g.phi_0,
+        g.limit,
+        &mut levels,
+        &mut variable_messages,
+        &mut check_messages,
+        &mut sums,
+        &mut bits,
+    );
+    match d {
+        Decoded::Refused(r) => put_refusal(out, r),
+        Decoded::Ran(r) => put_report(out, r, &bits[..n]),
+    }
+}
+
+// Reads the run text, and goes on to decode.
+fn run_answer(n: usize, starts: &[u8], columns: &[u8], run: &[u8], out: &mut [u8]) -> usize
+    requires { ⌜ (n ≤ 8192) × (length (now columns) / 2 ≤ 32768) × (longest ≤ length (now out)) ⌝ }
+    ensures { λ r. ⌜ Prints longest (afterRun n (now (starts .entry)) (now (columns .entry)) (runText n (now (run .entry)))) (now (out .entry)) (now (out .exit)) r ⌝ }
+{
+    let mut values = [0u8; 32768];
+    let x = run_text::read(n, run, &mut values);
+    match x {
+        Run::Refused(l) => put_refusal(out, Refusal::RunText(l)),
+        Run::Read(g) => {
+            let w = 4 * n;
+            decode_answer(n, starts, columns, &values[..w], g, out)
+        }
+    }
+}
+
+// Reads the sheet, and goes on to the run text.
+fn sheet_answer(sheet: &[u8], run: &[u8], out: &mut [u8]) -> usize
+    requires { ⌜ longest ≤ length (now out) ⌝ }
+    ensures { λ r. ⌜ Prints longest (afterSheet (sheetRead (now (sheet .entry)) 16386 65536) (now (run .entry))) (now (out .entry)) (now (out .exit)) r ⌝ }
+{
+    let mut starts = [0u8; 16386];
+    let mut columns = [0u8; 65536];
+    let x = sheet::read(sheet, &mut starts, &mut columns);
+    match x {
+        Sheet::Refused(r) => put_refusal(out, r),
+        Sheet::Read(counts) => {
+            let s = 2 * (counts.checks + 1);
+            let c = 2 * counts.entries;
+            run_answer(counts.variables, &starts[..s], &columns[..c], run, out)
+        }
+    }
+}
+
+// What the program prints for a sheet and a run text, at the front of `out`: its length. Nothing where `out` is shorter than 8,300 bytes.
+pub fn answer(sheet: &[u8], run: &[u8], out: &mut [u8]) -> usize
+    ensures { λ r. ⌜ Answers (now (sheet .entry)) (now (run .entry)) (now (out .entry)) (now (out .exit)) r ⌝ }
+{
+    if out.len() < 8300 {
+        return 0;
+    }
+    if 65536 < sheet.len() {
+        return put_refusal(out, Refusal::Count(0));
+    }
+    sheet_answer(sheet, run, out)
+}

@@ -1,0 +1,5 @@
+pub mod Words
+pub mod Lines
+pub mod Storing
+pub mod Lengths
+pub mod Trying
