@@ -47,9 +47,6 @@ pub fn run(decoders: &[Named]) {
     }
     if let Some(lists) = largest {
         let bytes = texts::sheet(&lists).len();
-        let decoders: Vec<Named> =
-            decoders.iter().copied().filter(|(_, decoder)| decoder.has_sheets()).collect();
-        let decoders = &decoders[..];
         println!("nanoseconds for a sheet of the largest graph:");
         heading(&["call", "bytes"], decoders);
         let calls =

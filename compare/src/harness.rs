@@ -8,7 +8,7 @@ mod shrink;
 mod twins;
 
 use check::{Seen, check};
-pub use programs::run_programs;
+pub use programs::{refusal_number, run_programs};
 
 use crate::generate::cases::{self, Case};
 use crate::interface::Decoder;
@@ -61,16 +61,10 @@ pub fn inputs(seed: u64) -> impl Iterator<Item = Case> {
     first.chain(at_limits.flatten()).chain((INPUTS_BEFORE_LIMITS..).map(random))
 }
 
-/// Those of them whose call the decoder has.
-fn inputs_of(decoder: &dyn Decoder, seed: u64) -> impl Iterator<Item = Case> {
-    let sheets = decoder.has_sheets();
-    inputs(seed).filter(move |case| sheets || !matches!(case, Case::Read(_) | Case::Write(_)))
-}
-
 pub fn run(decoder: &dyn Decoder, seed: u64, budget: Budget) -> Series {
     let begun = Instant::now();
     let mut series = Series::default();
-    for case in inputs_of(decoder, seed) {
+    for case in inputs(seed) {
         if budget.is_spent(series.inputs, begun) {
             break;
         }
@@ -89,7 +83,7 @@ pub fn run(decoder: &dyn Decoder, seed: u64, budget: Budget) -> Series {
 
 /// One input of a seed again.
 pub fn run_one(decoder: &dyn Decoder, seed: u64, input: u64) -> Option<Failure> {
-    let case = inputs_of(decoder, seed).nth(input as usize)?;
+    let case = inputs(seed).nth(input as usize)?;
     check(&case, decoder, input).err()?;
     Some(shrunk(case, decoder, input))
 }

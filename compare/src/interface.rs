@@ -120,11 +120,6 @@ pub trait Decoder {
     fn decode(&self, input: &DecodeInput, lent: &mut Lent) -> Answer<Decoded>;
     fn decode_place(&self, input: &DecodeInput, lent: &LentLengths) -> usize;
 
-    /// Whether the four calls below are there; where they are not, their inputs are passed over.
-    fn has_sheets(&self) -> bool {
-        true
-    }
-
     fn read_sheet(&self, text: &[u8], starts: &mut [u8], columns: &mut [u8])
     -> Answer<SheetCounts>;
     fn read_sheet_place(&self, text: &[u8], starts: usize, columns: usize) -> usize;

@@ -11,6 +11,7 @@ pub mod interface;
 pub mod library;
 pub mod paper;
 pub mod random;
+pub mod trials;
 
 #[cfg(test)]
 mod faults;

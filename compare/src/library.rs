@@ -57,6 +57,37 @@ unsafe extern "C" {
         sums_length: usize,
         bits_length: usize,
     ) -> usize;
+    fn frame_read_sheet(
+        text: *const u8,
+        text_length: usize,
+        starts: *mut u8,
+        starts_length: usize,
+        columns: *mut u8,
+        columns_length: usize,
+    ) -> u64;
+    fn frame_read_sheet_place(
+        text: *const u8,
+        text_length: usize,
+        starts_length: usize,
+        columns_length: usize,
+    ) -> usize;
+    fn frame_write_sheet(
+        n: usize,
+        starts: *const u8,
+        starts_length: usize,
+        columns: *const u8,
+        columns_length: usize,
+        text: *mut u8,
+        text_length: usize,
+    ) -> u64;
+    fn frame_write_sheet_place(
+        n: usize,
+        starts: *const u8,
+        starts_length: usize,
+        columns: *const u8,
+        columns_length: usize,
+        text_length: usize,
+    ) -> usize;
 }
 
 pub struct Library;
@@ -139,25 +170,65 @@ impl Decoder for Library {
         }
     }
 
-    /// The library exports no sheet calls yet.
-    fn has_sheets(&self) -> bool {
-        false
+    fn read_sheet(
+        &self,
+        text: &[u8],
+        starts: &mut [u8],
+        columns: &mut [u8],
+    ) -> Answer<SheetCounts> {
+        // SAFETY: as above.
+        let answer = unsafe {
+            frame_read_sheet(
+                text.as_ptr(),
+                text.len(),
+                starts.as_mut_ptr(),
+                starts.len(),
+                columns.as_mut_ptr(),
+                columns.len(),
+            )
+        };
+        unpacked(answer, |answer| {
+            Some(SheetCounts {
+                n: field(answer, 8, 16),
+                m: field(answer, 24, 16),
+                entries: field(answer, 40, 24),
+            })
+        })
     }
 
-    fn read_sheet(&self, _: &[u8], _: &mut [u8], _: &mut [u8]) -> Answer<SheetCounts> {
-        unimplemented!("frame_read_sheet")
+    fn read_sheet_place(&self, text: &[u8], starts: usize, columns: usize) -> usize {
+        // SAFETY: as above.
+        unsafe { frame_read_sheet_place(text.as_ptr(), text.len(), starts, columns) }
     }
 
-    fn read_sheet_place(&self, _: &[u8], _: usize, _: usize) -> usize {
-        unimplemented!("frame_read_sheet_place")
+    fn write_sheet(&self, graph: &GraphBytes, text: &mut [u8]) -> Answer<usize> {
+        // SAFETY: as above.
+        let answer = unsafe {
+            frame_write_sheet(
+                graph.n,
+                graph.starts.as_ptr(),
+                graph.starts.len(),
+                graph.columns.as_ptr(),
+                graph.columns.len(),
+                text.as_mut_ptr(),
+                text.len(),
+            )
+        };
+        unpacked(answer, |answer| Some(field(answer, 8, 56)))
     }
 
-    fn write_sheet(&self, _: &GraphBytes, _: &mut [u8]) -> Answer<usize> {
-        unimplemented!("frame_write_sheet")
-    }
-
-    fn write_sheet_place(&self, _: &GraphBytes, _: usize) -> usize {
-        unimplemented!("frame_write_sheet_place")
+    fn write_sheet_place(&self, graph: &GraphBytes, text: usize) -> usize {
+        // SAFETY: as above.
+        unsafe {
+            frame_write_sheet_place(
+                graph.n,
+                graph.starts.as_ptr(),
+                graph.starts.len(),
+                graph.columns.as_ptr(),
+                graph.columns.len(),
+                text,
+            )
+        }
     }
 }
 

@@ -3,7 +3,7 @@
 use compare::fast::Fast;
 use compare::harness::{self, Budget};
 use compare::interface::Decoder;
-use compare::{bench, paper};
+use compare::{bench, paper, trials};
 use std::io::{self, Read, Write};
 use std::process::ExitCode;
 use std::time::Duration;
@@ -14,6 +14,7 @@ const USAGE: &str = "usage:
   compare one SEED INPUT                               one input of a seed again
   compare program COUNT SEED COMMAND [ARGUMENT..]      the program against the paper's
   compare frame                                        the paper's program itself
+  compare trials (input | answers)                     what the program `trials` reads, and must print
   compare bench                                        times";
 
 const DEFAULT_INPUTS: u64 = 100_000;
@@ -40,6 +41,8 @@ fn main() -> ExitCode {
         ["one", seed, input] => one(number(seed), number(input)),
         ["program", count, seed, _, ..] => program(number(count), number(seed), &arguments[3..]),
         ["frame"] => frame(),
+        ["trials", "input"] => print(&trials::input()),
+        ["trials", "answers"] => print(&trials::answers()),
         ["bench"] => times(),
         _ => None,
     };
@@ -111,8 +114,11 @@ fn frame() -> Option<bool> {
     let code = fs::read("code.txt").ok();
     let mut run_text = Vec::new();
     let read = io::stdin().read_to_end(&mut run_text);
-    let written = io::stdout().write_all(&paper::frame(code.as_deref(), &run_text));
-    Some(read.is_ok() && written.is_ok())
+    print(&paper::frame(code.as_deref(), &run_text)).map(|written| read.is_ok() && written)
+}
+
+fn print(bytes: &[u8]) -> Option<bool> {
+    Some(io::stdout().write_all(bytes).is_ok())
 }
 
 fn times() -> Option<bool> {

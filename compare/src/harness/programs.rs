@@ -61,7 +61,8 @@ fn expected(case: &ProgramCase) -> Vec<u8> {
     paper::frame(case.code.as_deref(), &case.run_text)
 }
 
-fn refusal_number(printed: &[u8]) -> u8 {
+/// The number of a printed refusal, 0 where nothing was refused.
+pub fn refusal_number(printed: &[u8]) -> u8 {
     let text = String::from_utf8_lossy(printed);
     let numbers = text.strip_prefix("refusal place\n");
     numbers.and_then(|numbers| numbers.split(' ').next()?.parse().ok()).unwrap_or(0)
