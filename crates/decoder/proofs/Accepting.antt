@@ -1,6 +1,6 @@
 -- The refusals of decode, in their order.
 use mathlib.Core.Path.{_≡_, refl, sym, ap, _∙_, subst}
-use mathlib.Core.Bool.{Bool, true, false}
+use mathlib.Core.Bool.{true, false}
 use Prim.Native.Nat.{ℕ, _*_, _/_, _≤_}
 use native.Mathlib.Omega.{arith}
 use borrow.Author.Tests.{eq-eqb, ne-eqb, eqb-true, leb-true}
@@ -16,7 +16,6 @@ use Rattle.rules.specs.declared.Report.{Report}
 use Rattle.graph.specs.Judging.{graphJudged}
 use Rattle.graph.proofs.Meaning.{graph-admitted}
 use Rattle.channel.specs.declared.Settings.{Settings}
-use Rattle.channel.specs.declared.Checked.{Checked}
 use Rattle.channel.specs.declared.Checked.the-variants as Checks
 use Rattle.channel.specs.Settings.{settings, settingsJudged, checked, settingsOf}
 use Rattle.channel.proofs.Accepted.{good-settings}

@@ -1,6 +1,6 @@
 -- Iteration 0 in memory.
 use mathlib.Core.Path.{_≡_, refl, sym, ap, _∙_, subst}
-use mathlib.Core.List.{List, [], _∷_, _++_, map}
+use mathlib.Core.List.{List, [], _∷_, _++_}
 use Prim.Native.Nat.{ℕ, zero, suc, _*_, _/_, _<_}
 use native.Mathlib.Nat.{mul-suc}
 use native.Mathlib.Omega.{arith}
@@ -16,7 +16,7 @@ use Rattle.rules.specs.Graphs.{Graph, Admitted, variableDegree}
 use Rattle.rules.specs.Nodes.{Offsets, firstMessage, firstBit}
 use Rattle.rules.specs.Sequence.{signPreserving, begun, final}
 use Rattle.rules.specs.declared.Report.{Report}
-use Rattle.rules.proofs.Ranges.{tabulate-ext, getD-tabulate, length-tabulate}
+use Rattle.rules.proofs.Ranges.{getD-tabulate, length-tabulate}
 use Rattle.rules.proofs.Same.{final-same, report-same}
 use Rattle.rules.proofs.Filling.{map-tabulate, tabulate-add}
 use Rattle.rules.proofs.Own.{level-bytes}
@@ -26,7 +26,7 @@ use Rattle.words.proofs.Words.{table-ext}
 use Rattle.channel.specs.declared.Settings.{Settings}
 use Rattle.channel.specs.Values.{channelLevel}
 use Rattle.channel.proofs.Magnitudes.{magnitudes-within}
-use Rattle.nodes.specs.Memory.{levelIn, onColumns}
+use Rattle.nodes.specs.Memory.{levelIn}
 use Rattle.decoder.specs.Steps.{Holds, Sized, Begins, Runs, schemeUnder, RunsFrom, RunsInto}
 use Rattle.decoder.specs.Decoding.{Memory}
 use Rattle.decoder.specs.Frames.{memory}

@@ -1,7 +1,7 @@
 -- The memory holds the state of the iteration, from one iteration to the next, and the run stops where the rules say.
 use mathlib.Core.Path.{_≡_, refl, sym, ap, ap₂, _∙_, fun-ext, subst}
 use mathlib.Core.Bool.{Bool, true, false, not, _||_, true≢false}
-use mathlib.Core.List.{List, [], map}
+use mathlib.Core.List.{List, map}
 use Prim.Native.Nat.{ℕ, zero, suc, _+_, _*_, _-_, _^_, _≤_, _<_}
 use native.Mathlib.Decide.{decLt}
 use native.Mathlib.Nat.{mul-le-mul-right}
@@ -9,22 +9,22 @@ use native.Mathlib.Numerals.{add-one}
 use native.Mathlib.Omega.{arith}
 use borrow.Author.Tests.{ne-eqb, lt-leb, leb-false}
 use lib.Dec.{eqb, leb}
-use lib.IntN.{ℤ, pos, natAbs, _-ℤ_}
+use lib.IntN.{pos, natAbs, _-ℤ_}
 use lib.ListN.{length, getD, List·getD-map, List·getD-eq-default}
 use mir.Syntax.{w32}
 use mir.Val.{ofZ}
-use Rattle.rules.specs.Ranges.{joined, one, tabulate, first}
+use Rattle.rules.specs.Ranges.{one, tabulate}
 use Rattle.rules.specs.Levels.{Level, byte, levelOf, plusZero, largest}
 use Rattle.rules.specs.Graphs.{Graph, Admitted, variableDegree, unsatisfied}
-use Rattle.rules.specs.Nodes.{Offsets, fromCheck, contribution, posterior, bitOf, outgoingSum, outgoingMagnitude, outgoing, fromVariable}
-use Rattle.rules.specs.Sequence.{Scheme, State, signPreserving, levelAt, bitAt, begun, sentIn, sent, iterated, next, state, unsatisfiedIn, stop, final, report}
+use Rattle.rules.specs.Nodes.{Offsets, fromCheck, contribution, posterior, bitOf, outgoingSum, outgoingMagnitude, fromVariable}
+use Rattle.rules.specs.Sequence.{Scheme, signPreserving, levelAt, bitAt, begun, sentIn, sent, iterated, next, state, unsatisfiedIn, stop, final, report}
 use Rattle.rules.specs.declared.Report.{Report}
-use Rattle.rules.proofs.Ranges.{tabulate-ext, length-tabulate, getD-tabulate, First, first-is, first-only}
+use Rattle.rules.proofs.Ranges.{tabulate-ext, length-tabulate, getD-tabulate, first-is, first-only}
 use Rattle.rules.proofs.Filling.{map-tabulate}
 use Rattle.rules.proofs.Own.{level-bytes}
 use Rattle.rules.proofs.Parity.{outgoing-is-rest}
 use Rattle.rules.proofs.Bounds.{magnitude-within, messages-within, sums-bounded}
-use Rattle.words.specs.Roles.{sumAt, sumTable, bitOfByte}
+use Rattle.words.specs.Roles.{sumAt, bitOfByte}
 use Rattle.words.proofs.Words.{table-ext}
 use Rattle.channel.proofs.Magnitudes.{largest-within}
 use Rattle.nodes.specs.Memory.{levelIn}

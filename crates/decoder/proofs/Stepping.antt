@@ -2,7 +2,7 @@
 use mathlib.Core.Path.{_≡_, refl, sym, ap, ap₂, _∙_}
 use mathlib.Core.Bool.{Bool, true, false, cond}
 use mathlib.Core.List.{List, [], _++_, append-nil}
-use Prim.Native.Nat.{ℕ, zero, suc, _+_, _*_, _-_, _/_, _^_, _≤_, _<_}
+use Prim.Native.Nat.{ℕ, _+_, _*_, _-_, _/_, _^_, _≤_, _<_}
 use native.Mathlib.Omega.{arith}
 use lib.Dec.{eqb}
 use lib.IntN.{ℤ, pos, natAbs, _+ℤ_}
@@ -10,10 +10,9 @@ use lib.ListN.{length, getD, drop, drop-of-length-le}
 use mir.Syntax.{w32}
 use mir.Val.{ofZ}
 use Rattle.rules.specs.Ranges.{fold, one, tabulate}
-use Rattle.rules.specs.Levels.{Level, byte, levelOf}
-use Rattle.rules.specs.Graphs.{Graph, Admitted, variableDegree, checkOf}
+use Rattle.rules.specs.Levels.{byte}
+use Rattle.rules.specs.Graphs.{Admitted, variableDegree, checkOf}
 use Rattle.rules.specs.Nodes.{others, fromCheck, contribution, odd, extra, channelPart, share, posterior, bitOf}
-use Rattle.rules.specs.Theorems.{largestSum}
 use Rattle.rules.proofs.Ranges.{tabulate-ext}
 use Rattle.rules.proofs.Bounds.{abs-contribution, posterior-bound}
 use Rattle.words.specs.Roles.{sumAt, sumTable, graphOf}

@@ -1,6 +1,5 @@
 -- Demand 3 over the values.
-use mathlib.Core.Path.{_≡_, sym, ap, _∙_}
-use mathlib.Core.Bool.{Bool}
+use mathlib.Core.Path.{_≡_, ap, _∙_}
 use Prim.Native.Nat.{ℕ, _/_, _<_}
 use lib.ListN.{length}
 use Rattle.rules.specs.Levels.{largest}
@@ -9,7 +8,7 @@ use Rattle.graph.proofs.Meaning.{graph-admitted}
 use Rattle.channel.specs.Scaling.{factorOf}
 use Rattle.channel.specs.Reversal.{reversed}
 use Rattle.channel.proofs.Reversing.{length-reversed, reversed-judged, reversed-levels}
-use Rattle.decoder.specs.Decoding.{Frame, graph, levels, offsetsOf, frameJudged}
+use Rattle.decoder.specs.Decoding.{graph, levels, offsetsOf}
 use Rattle.decoder.specs.Symmetry.{reversedBy, Demand3}
 use Rattle.decoder.proofs.Accepting.{Told, frame-told, frame-admitted}
 use Rattle.decoder.specs.Frames.{room}

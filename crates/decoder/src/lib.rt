@@ -1,17 +1,17 @@
 // Decodes one frame.
 ghost use mathlib.Core.Path.{_≡_};
 ghost use mathlib.Core.Bool.{true};
-ghost use Prim.Native.Nat.{ℕ, _*_, _/_, _≤_};
+ghost use Prim.Native.Nat.{_*_, _/_, _≤_};
 ghost use lib.ListN.{length};
 ghost use Rattle.rules.specs.Levels.{largest};
-ghost use Rattle.rules.specs.Sequence.{signPreserving, begun, final, report};
+ghost use Rattle.rules.specs.Sequence.{signPreserving, begun};
 ghost use Rattle.channel.specs.Theorems.{Admissible};
 ghost use Rattle.channel.specs.Settings.{settings, checked};
 ghost use Rattle.rules.specs.declared.Judged.the-variants as Judgement;
 ghost use Rattle.decoder.specs.Frames.{frame, memory, room};
 ghost use Rattle.words.specs.Roles.{graphOf};
 ghost use Rattle.nodes.specs.Memory.{levelIn};
-ghost use Rattle.decoder.specs.Decoding.{Frame, Memory, Room, Decodes, enough, frameJudged, decodeJudged};
+ghost use Rattle.decoder.specs.Decoding.{Decodes, enough, decodeJudged};
 ghost use Rattle.decoder.specs.Steps.{Holds, Sized, sends, reportAt, Runs, offsetsIn, Ready, exact, RunsFrom, RunsInto};
 use channel::Checked;
 use channel::Scaling;

@@ -1,6 +1,6 @@
 // The steps of a run, on memory of exactly the right lengths.
 ghost use mathlib.Core.Path.{_≡_};
-ghost use Prim.Native.Nat.{ℕ, _/_, _<_, _≤_, _^_};
+ghost use Prim.Native.Nat.{ℕ, _/_, _<_, _^_};
 ghost use lib.IntN.{natAbs, _-ℤ_};
 ghost use lib.ListN.{length, getD};
 ghost use Rattle.rules.specs.Ranges.{tabulate};

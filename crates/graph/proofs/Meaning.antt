@@ -1,21 +1,18 @@
 -- A graph is refused by none of the five exactly when it is admitted.
-use mathlib.Core.Path.{_≡_, ap, sym, _∙_}
-use mathlib.Core.List.{List}
-use Prim.Native.Nat.{ℕ, suc, _+_, _≤_, _<_}
-use native.Mathlib.Numerals.{add-one}
+use mathlib.Core.Path.{_≡_, sym, _∙_}
+use Prim.Native.Nat.{ℕ, _<_}
 use native.Mathlib.Omega.{arith}
-use borrow.Author.Tests.{ltb-true, leb-true, eqb-true}
-use lib.Dec.{eqb, leb, ltb}
-use lib.ListN.{length, getD}
+use borrow.Author.Tests.{ltb-true}
+use lib.Dec.{ltb}
 use Rattle.rules.specs.Graphs.{Graph, Admitted}
-use Rattle.rules.specs.Refusals.{unless, orElse}
-use Rattle.rules.specs.declared.Refusal.the-variants.{Range, Length, Bit}
+use Rattle.rules.specs.Refusals.{unless}
+use Rattle.rules.specs.declared.Refusal.the-variants.{Range}
 use Rattle.rules.specs.declared.Refusal.{Refusal}
 use Rattle.rules.specs.declared.Judged.the-variants as Judgement
-use Rattle.rules.proofs.Judging.{orElse-left, orElse-right, orElse-both, unless-true, refused-not, all-true}
+use Rattle.rules.proofs.Judging.{orElse-left, orElse-right, orElse-both, unless-true, refused-not}
 use Rattle.graph.specs.Judging.{countsJudged, startsJudged, columnsJudged, rowsJudged, checkDegreesJudged, variableDegreesJudged, graphJudged}
-use Rattle.graph.specs.Calls.{JudgedRightly, rowJudgement, bytesJudged, bitsJudged}
-use Rattle.graph.proofs.Parts.{counts-told, counts-admitted, Starts, starts-told, starts-admitted, row-ends, columns-told, columns-admitted, rows-told, rows-admitted, check-degrees-told, check-degrees-admitted, variable-degrees-told, variable-degrees-admitted}
+use Rattle.graph.specs.Calls.{JudgedRightly, rowJudgement}
+use Rattle.graph.proofs.Parts.{counts-told, counts-admitted, Starts, starts-told, starts-admitted, columns-told, columns-admitted, rows-told, rows-admitted, check-degrees-told, check-degrees-admitted, variable-degrees-told, variable-degrees-admitted}
 
 -- none of the parts refuses
 pub record Parts (G : Graph) : Type 0 where
@@ -96,19 +93,4 @@ row-admitted G i h =
     let number = unless (ltb i (G .checks)) (Range i) in (
       graph-admitted G (orElse-left (graphJudged G) number h),
       ltb-true i (G .checks) (unless-true (ltb i (G .checks)) (Range i) (orElse-right (graphJudged G) number h)),
-    )
-
-pub bytes-told : (bits : List ℕ) → bytesJudged bits ≡ Judgement.Admitted → (v : ℕ) → v < length bits → getD bits v 0 ≤ 1
-unfolding bytesJudged
-bytes-told bits h v l = leb-true (getD bits v 0) 1 (all-true (λ v. leb (getD bits v 0) 1) (λ v. Bit v) (length bits) h v l)
-
-pub bits-admitted : (G : Graph) (bits : List ℕ) → bitsJudged G bits ≡ Judgement.Admitted
-    → Admitted G × (length bits ≡ G .variables) × ((v : ℕ) → v < length bits → getD bits v 0 ≤ 1)
-unfolding bitsJudged
-bits-admitted G bits h =
-    let number = unless (eqb (length bits) (G .variables)) (Length 0) in
-    let rest = orElse-right (graphJudged G) (orElse number (bytesJudged bits)) h in (
-      graph-admitted G (orElse-left (graphJudged G) (orElse number (bytesJudged bits)) h),
-      eqb-true (length bits) (G .variables) (unless-true (eqb (length bits) (G .variables)) (Length 0) (orElse-left number (bytesJudged bits) rest)),
-      bytes-told bits (orElse-right number (bytesJudged bits) rest),
     )

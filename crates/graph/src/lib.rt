@@ -3,7 +3,7 @@ ghost use mathlib.Core.Path.{_≡_};
 ghost use Prim.Native.Nat.{_+_, _-_, _/_, _≤_, min};
 ghost use lib.ListN.{length};
 ghost use Rattle.rules.specs.declared.Judged.the-variants as Judgement;
-ghost use Rattle.words.specs.Roles.{columnAt, graphOf, bitOfByte};
+ghost use Rattle.words.specs.Roles.{columnAt, graphOf};
 ghost use Rattle.graph.specs.Judging.{between, countsJudged, startFits, startsJudged, columnsJudged, spanJudged, rowsJudged, checkDegreesJudged, variableDegreesJudged, graphJudged};
 ghost use Rattle.graph.specs.Calls.{rowJudgement, partOf, bytesJudged, bitsJudged, oddAnswer};
 ghost use Rattle.graph.specs.Degrees.{tallied};

@@ -16,7 +16,7 @@ use Rattle.rules.specs.declared.Verdict.{Verdict}
 use Rattle.rules.specs.declared.Verdict.the-variants.{Codeword, Stopped}
 use Rattle.decoder.specs.declared.Decoded.{Decoded}
 use Rattle.decoder.specs.Decoding.{Frame, Memory, Room, Decodes, graph, scheme, frameJudged, decodeJudged, decoded}
-use Rattle.decoder.proofs.Accepting.{Told, frame-told, memory-told, settingsFor}
+use Rattle.decoder.proofs.Accepting.{frame-told, memory-told, settingsFor}
 use Rattle.host.specs.Packing.{Small, verdictOf, packDecoded, HostDecodes}
 
 unsatisfied-small : (F : Frame) (t : ℕ) → frameJudged F ≡ Admitted → unsatisfiedIn (graph F) (scheme F) t ≤ 8192

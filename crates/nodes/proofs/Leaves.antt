@@ -1,6 +1,6 @@
 -- What the leaves of the code compute: signs, parities, and the tests on a sum.
 use mathlib.Core.Path.{_≡_, refl, sym, ap, _∙_, subst}
-use mathlib.Core.Bool.{Bool, true, false, not, cond, xor, Bool·beq}
+use mathlib.Core.Bool.{Bool, true, false, not, cond, xor}
 use Prim.Native.Nat.{ℕ, zero, suc, _+_, _*_, _-_, _/_, _%_, _≤_, _<_}
 use native.Mathlib.Omega.{arith}
 use borrow.Author.Tests.{ltb-true, ltb-false, le-ltb, ne-eqb, leb-true, leb-false}
@@ -11,14 +11,6 @@ use mir.Val.{boolByte}
 use Rattle.rules.specs.Ranges.{one}
 use Rattle.rules.specs.Levels.{levelOf}
 use Rattle.rules.specs.Nodes.{odd, extra, bitOf, negative}
-
--- `a != b` of two bools
-pub ne-xor : (a b : Bool) → not (Bool·beq a b) ≡ xor a b
-unfolding xor
-ne-xor true true = refl
-ne-xor true false = refl
-ne-xor false true = refl
-ne-xor false false = refl
 
 -- a number is odd exactly where its remainder is 1
 odd-of : (n : ℕ) → one (odd n) ≡ n % 2

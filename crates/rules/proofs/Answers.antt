@@ -1,5 +1,5 @@
 -- The trial values, by computation: where a definition is wrong, the rows that fail are shown.
-use mathlib.Core.Path.{_≡_, refl}
+use mathlib.Core.Path.{refl}
 use mathlib.Core.Bool.{xor}
 use Rattle.rules.specs.Ranges.{fold, but, count, joined, tabulate, first}
 use Rattle.rules.specs.Levels.{byte}

@@ -1,5 +1,5 @@
 -- Every message keeps within Nq, and every sum within its bound.
-use mathlib.Core.Path.{_≡_, refl, sym, ap, ap₂, _∙_}
+use mathlib.Core.Path.{_≡_, refl, sym, ap, _∙_}
 use mathlib.Core.Bool.{Bool, true, false, cond}
 use mathlib.Core.Logic.{_≢_}
 use Prim.Native.Nat.{ℕ, zero, suc, _+_, _-_, _*_, _/_, _≤_, _<_, min}
@@ -8,13 +8,12 @@ use native.Mathlib.Nat.{zero-add, add-mul}
 use native.Mathlib.Omega.{arith}
 use borrow.Author.Tests.{ltb-true, ltb-false, eqb-true}
 use lib.Dec.{eqb, leb, ltb}
-use lib.ListN.{getD}
-use lib.IntN.{ℤ, pos, negsuc, subℕ, natAbs, _+ℤ_, +ℤ-idr}
+use lib.IntN.{ℤ, pos, negsuc, subℕ, natAbs, _+ℤ_}
 use Rattle.rules.specs.Ranges.{fold, but, one, count, tabulate}
 use Rattle.rules.specs.Levels.{Level, plusZero}
 use Rattle.rules.specs.Graphs.{Graph, Admitted, checkDegree, variableDegree, checkOf}
 use Rattle.rules.specs.Nodes.{Offsets, firstMessage, others, fromCheck, signed, contribution, extra, channelPart, share, posterior, outgoingMagnitude, outgoing, outgoingSum, fromVariable}
-use Rattle.rules.specs.Sequence.{Scheme, State, signPreserving, levelAt, begun, sentIn, sent, iterated, next, state}
+use Rattle.rules.specs.Sequence.{Scheme, signPreserving, levelAt, begun, sentIn, sent, iterated, next, state}
 use Rattle.rules.specs.Theorems.{MessagesWithin, largestSum, SumsBounded, BoundReached}
 use Rattle.rules.proofs.Ranges.{least-below, but-other, fold-ext, fold-map, getD-tabulate}
 use Rattle.rules.proofs.Rows.{rowed, row-within, row-entries}

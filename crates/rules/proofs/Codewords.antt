@@ -1,20 +1,19 @@
 -- Demand 3 over levels.
-use mathlib.Core.Path.{_≡_, refl, sym, ap, ap₂, _∙_}
+use mathlib.Core.Path.{_≡_, sym, ap, ap₂, _∙_}
 use mathlib.Core.Bool.{Bool, false, cond, xor}
 use mathlib.Core.List.{List}
-use Prim.Native.Nat.{ℕ, zero, suc, _≤_, _<_, min}
+use Prim.Native.Nat.{ℕ, zero, suc, _<_, min}
 use native.Mathlib.Omega.{arith}
 use lib.Dec.{eqb}
 use lib.ListN.{getD}
 use lib.IntN.{ℤ, pos}
-use Rattle.rules.specs.Ranges.{tabulate}
 use Rattle.rules.specs.Levels.{Level, plusZero}
 use Rattle.rules.specs.Graphs.{Graph, Admitted, Codeword}
-use Rattle.rules.specs.Nodes.{Offsets, firstMessage, firstBit, fromCheck, posterior, bitOf, outgoingSum, outgoing, fromVariable}
-use Rattle.rules.specs.Sequence.{Scheme, State, signPreserving, levelAt, bitAt, begun, sentIn, sent, iterated, next, state, unsatisfiedIn, stop, final, report}
+use Rattle.rules.specs.Nodes.{Offsets, firstMessage, firstBit, fromCheck, bitOf, outgoingSum, outgoing, fromVariable}
+use Rattle.rules.specs.Sequence.{Scheme, signPreserving, levelAt, bitAt, begun, sent, iterated, next, state, unsatisfiedIn, stop, final, report}
 use Rattle.rules.specs.declared.Report.{Report}
 use Rattle.rules.specs.declared.Verdict.the-variants.{Codeword as codeword, Stopped as stopped}
-use Rattle.rules.specs.Symmetry.{turned, opposite, Reversed, Mirrored, SameRun, Symmetric, Symmetry}
+use Rattle.rules.specs.Symmetry.{turned, opposite, Reversed, Mirrored, SameRun, Symmetry}
 use Rattle.rules.proofs.Ranges.{getD-tabulate, first-ext}
 use Rattle.rules.proofs.Signs.{bit-turned, outgoing-turned}
 use Rattle.rules.proofs.Parity.{outgoing-nonzero}

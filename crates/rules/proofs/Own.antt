@@ -2,17 +2,17 @@
 use mathlib.Core.Path.{_≡_, refl, sym, ap, ap₂, _∙_}
 use mathlib.Core.Bool.{Bool, true, false, cond, xor}
 use mathlib.Core.Logic.{_≢_}
-use Prim.Native.Nat.{ℕ, _+_, _%_, _≤_, _<_, min}
+use Prim.Native.Nat.{ℕ, _+_, _%_, _<_, min}
 use native.Mathlib.Decide.{ℕ-discrete}
 use native.Mathlib.Omega.{arith}
 use borrow.Author.Tests.{le-leb, lt-leb, leb-true, leb-false}
 use lib.Dec.{eqb, leb}
-use lib.IntN.{ℤ, pos, _+ℤ_}
-use Rattle.rules.specs.Ranges.{fold, but}
+use lib.IntN.{pos, _+ℤ_}
+use Rattle.rules.specs.Ranges.{but}
 use Rattle.rules.specs.Levels.{Level, byte, levelOf}
 use Rattle.rules.specs.Graphs.{Graph, checkDegree, checkOf}
 use Rattle.rules.specs.Nodes.{others, fromCheck, contribution, channelPart, share, outgoingSum}
-use Rattle.rules.specs.Theorems.{LevelBytes, Extrinsic, OwnUncounted}
+use Rattle.rules.specs.Theorems.{LevelBytes, OwnUncounted}
 use Rattle.rules.proofs.Ranges.{but-same, but-other, fold-ext}
 
 -- two functions that differ at e alone, with e left out

@@ -6,7 +6,7 @@ use Prim.Native.Nat.{ℕ, zero, suc, _+_, _*_, _<_}
 use native.Mathlib.Omega.{arith}
 use borrow.Author.Tests.{eq-eqb, eqb-true}
 use lib.Dec.{eqb}
-use lib.IntN.{ℤ, pos, negsuc, _+ℤ_, _-ℤ_, negℤ, natAbs, sucℤ, predℤ, +ℤ-assoc, +ℤ-comm, +ℤ-idr, +ℤ-sucℤ, +ℤ-predℤ, +ℤ-negℤ-cancel}
+use lib.IntN.{ℤ, pos, negsuc, _+ℤ_, _-ℤ_, natAbs, sucℤ, predℤ, +ℤ-assoc, +ℤ-comm, +ℤ-idr, +ℤ-sucℤ, +ℤ-predℤ, +ℤ-negℤ-cancel}
 use Rattle.rules.specs.Ranges.{fold, but, one, count}
 use Rattle.rules.specs.Levels.{Level}
 use Rattle.rules.specs.Graphs.{Graph, variableDegree}

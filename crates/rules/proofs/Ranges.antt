@@ -9,7 +9,6 @@ use native.Mathlib.Nat.{zero-add, mul-zero, eq-or-lt-of-le, le-of-suc-le-suc}
 use native.Mathlib.Numerals.{add-one}
 use native.Mathlib.Omega.{arith}
 use borrow.Author.Tests.{eq-eqb, ne-eqb}
-use lib.Dec.{eqb}
 use lib.ListN.{length, getD, drop, set, length-append, List·getD-append}
 use lib.Seq.{drop-cons, set-at, getD-append-add}
 use Rattle.rules.specs.Ranges.{fold, but, one, count, joined, tabulate, first}
@@ -46,15 +45,6 @@ but-same z e f = rw (eq-eqb e e refl)
 pub but-other : {A : Type 0} (z : A) (e : ℕ) (f : ℕ → A) (k : ℕ) → k ≢ e → but z e f k ≡ f k
 unfolding but
 but-other z e f k h = rw (ne-eqb k e h)
-
--- what holds of z and of f k holds of f but z at e
-pub but-holds : {A : Type 0} (P : A → Type 0) (z : A) (e : ℕ) (f : ℕ → A) (k : ℕ) → P z → P (f k) → P (but z e f k)
-unfolding but
-but-holds P z e f k pz pf = go (eqb k e)
-  where
-    go : (b : Bool) → P (cond b z (f k))
-    go true = pz
-    go false = pf
 
 pub record Monoid {A : Type 0} (op : A → A → A) (z : A) : Type 0 where
   pub assoc : (x y w : A) → op (op x y) w ≡ op x (op y w)
@@ -111,16 +101,6 @@ module _ (f : ℕ → ℕ) (z a : ℕ) where
       go : Dec (k ≡ a + n) → (k < a + n → fold min z f a n ≤ f k) → min (fold min z f a n) (f (a + n)) ≤ f k
       go (yes p) ih = rw p (omega arith)
       go (no p) ih = omega (arith, ih (omega arith))
-
-  pub least-top : (n : ℕ) → fold min z f a n ≤ z
-  unfolding fold
-  least-top zero = omega arith
-  least-top (suc n) = omega (arith, least-top n)
-
-  pub least-above : (x n : ℕ) → x ≤ z → ((k : ℕ) → a ≤ k → k < a + n → x ≤ f k) → x ≤ fold min z f a n
-  unfolding fold
-  least-above x zero t h = t
-  least-above x (suc n) t h = omega (arith, least-above x n t (λ k l u. h k l (omega arith)), h (a + n) (omega arith) (omega arith))
 
 -- ---- counts
 
@@ -237,10 +217,6 @@ module _ {A : Type 0} where
         here : j ≡ n → getD (joined f n ++ (f n ++ t)) (w * j + r) d ≡ getD (f j) r d
         here e = subst⁻¹ (λ (x : ℕ). getD (joined f n ++ (f n ++ t)) (w * x + r) d ≡ getD (f x) r d) e
             (rw (← length-joined n, getD-append-add) (List·getD-append (f n) t d r (omega (arith, wide n))))
-
-    -- an element past them all
-    pub getD-past : (n : ℕ) (t : List A) (k : ℕ) (d : A) → getD (joined f n ++ t) (w * n + k) d ≡ getD t k d
-    getD-past n t k d = rw (← length-joined n) (getD-append-add (joined f n) t k d)
 
   pub length-tabulate : (f : ℕ → A) (n : ℕ) → length (tabulate f n) ≡ n
   unfolding tabulate

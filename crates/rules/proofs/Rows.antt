@@ -1,12 +1,11 @@
 -- Entries and their checks, on a graph whose starts make rows.
-use mathlib.Core.Path.{_≡_, refl, sym, ap, _∙_}
+use mathlib.Core.Path.{_≡_, refl, ap}
 use Prim.Native.Nat.{ℕ, zero, suc, _+_, _-_, _≤_, _<_}
 use native.Mathlib.Decide.{ℕ-discrete}
 use native.Mathlib.Numerals.{add-one}
 use native.Mathlib.Omega.{arith}
 use borrow.Author.Tests.{ltb-true, ltb-false, lt-ltb, le-ltb}
 use lib.Dec.{ltb}
-use Rattle.rules.specs.Ranges.{first}
 use Rattle.rules.specs.Graphs.{Graph, Admitted, Rowed, checkDegree, checkOf}
 use Rattle.rules.proofs.Ranges.{First, first-is, first-only}
 

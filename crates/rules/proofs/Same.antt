@@ -10,7 +10,7 @@ use Rattle.rules.specs.Ranges.{fold, but, tabulate}
 use Rattle.rules.specs.Levels.{Level, plusZero}
 use Rattle.rules.specs.Graphs.{Graph, Admitted, variableDegree, unsatisfied}
 use Rattle.rules.specs.Nodes.{Offsets, firstMessage, firstBit, fromCheck, contribution, extra, channelPart, share, posterior, bitOf, outgoingSum, outgoing, fromVariable}
-use Rattle.rules.specs.Sequence.{Scheme, State, signPreserving, levelAt, bitAt, begun, sentIn, sent, iterated, next, state, unsatisfiedIn, stop, final, report}
+use Rattle.rules.specs.Sequence.{Scheme, signPreserving, levelAt, bitAt, begun, sentIn, sent, iterated, next, state, unsatisfiedIn, stop, final, report}
 use Rattle.rules.specs.declared.Report.{Report}
 use Rattle.rules.specs.declared.Verdict.the-variants.{Codeword, Stopped}
 use Rattle.rules.proofs.Ranges.{tabulate-ext, first-ext}

@@ -3,7 +3,7 @@ use mathlib.Core.Path.{_≡_, refl, sym, ap, _∙_}
 use mathlib.Core.Bool.{Bool, true, false, not, xor}
 use mathlib.Core.Logic.{_≢_}
 use Prim.Native.Nat.{ℕ, zero, suc, _+_, _*_}
-use lib.IntN.{ℤ, pos, negsuc, _+ℤ_, negℤ, negℤ-+ℤ, negℤ-negℤ}
+use lib.IntN.{ℤ, pos, negsuc, _+ℤ_, negℤ-+ℤ, negℤ-negℤ}
 use Rattle.rules.specs.Levels.{Level}
 use Rattle.rules.specs.Nodes.{signed, contribution, bitOf, negative, Offsets, outgoing}
 use Rattle.rules.specs.Symmetry.{turned, opposite}

@@ -1,15 +1,13 @@
 -- The run stops at the first codeword, or at the limit.
 use mathlib.Core.Path.{_≡_, refl, sym, ap, _∙_}
 use mathlib.Core.Bool.{Bool, true, false, cond}
-use Prim.Native.Nat.{ℕ, _≤_, _<_}
+use Prim.Native.Nat.{ℕ}
 use native.Mathlib.Omega.{arith}
 use borrow.Author.Tests.{eq-eqb, eqb-true}
 use lib.Dec.{eqb}
-use Rattle.rules.specs.Ranges.{first}
 use Rattle.rules.specs.Graphs.{Graph, Codeword, oddCheck, unsatisfied}
-use Rattle.rules.specs.Sequence.{Scheme, State, bitAt, state, unsatisfiedIn, stop, final, report}
+use Rattle.rules.specs.Sequence.{Scheme, bitAt, state, unsatisfiedIn, stop, final, report}
 use Rattle.rules.specs.Theorems.{RunStops}
-use Rattle.rules.specs.declared.Verdict.{Verdict}
 use Rattle.rules.specs.declared.Verdict.the-variants as Verdicts
 use Rattle.rules.proofs.Ranges.{First, first-is, count-zero, zero-count}
 

@@ -1,5 +1,5 @@
 -- Numbers in a range: combined, listed, and searched. Every sum, product, least, count and list of the rules is one of these.
-use mathlib.Core.Bool.{Bool, true, false, cond}
+use mathlib.Core.Bool.{Bool, cond}
 use mathlib.Core.List.{List, [], _∷_, _++_}
 use Prim.Native.Nat.{ℕ, zero, suc, _+_}
 use lib.Dec.{eqb}

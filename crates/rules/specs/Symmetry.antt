@@ -9,7 +9,7 @@ use lib.IntN.{ℤ, pos, negℤ}
 use Rattle.rules.specs.Levels.{Level}
 use Rattle.rules.specs.Graphs.{Graph, Admitted, Codeword}
 use Rattle.rules.specs.Nodes.{Offsets, outgoingSum}
-use Rattle.rules.specs.Sequence.{Scheme, State, signPreserving, levelAt, bitAt, sent, state, final, report}
+use Rattle.rules.specs.Sequence.{Scheme, signPreserving, levelAt, bitAt, sent, state, final, report}
 
 -- The level with its sign reversed where b, its magnitude kept.
 unfoldable pub turned : Bool → Level → Level

@@ -1,10 +1,10 @@
 -- What else is promised of the rules, for any Nch and Nq. Each statement is a type; proofs/ has a proof of each.
 use mathlib.Core.Path.{_≡_}
-use mathlib.Core.Bool.{Bool, true, false}
+use mathlib.Core.Bool.{true, false}
 use mathlib.Core.Logic.{_↔_, _≢_}
 use Prim.Native.Nat.{ℕ, _+_, _*_, _≤_, _<_}
 use lib.ListN.{getD}
-use lib.IntN.{ℤ, pos, _-ℤ_, natAbs}
+use lib.IntN.{pos, _-ℤ_, natAbs}
 use Rattle.rules.specs.Levels.{Level, byte, levelOf}
 use Rattle.rules.specs.Graphs.{Graph, Admitted, variableDegree, Codeword}
 use Rattle.rules.specs.Nodes.{Offsets, contribution, extra, odd, fromCheck, posterior, outgoingSum}

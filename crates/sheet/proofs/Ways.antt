@@ -2,8 +2,7 @@
 use mathlib.Core.Path.{_≡_, refl, sym, ap, _∙_, subst}
 use mathlib.Core.Bool.{Bool, false, true, _&&_}
 use mathlib.Core.List.{List}
-use Prim.Native.Nat.{ℕ, suc, _+_, _*_, _≤_, _<_}
-use native.Mathlib.Omega.{arith}
+use Prim.Native.Nat.{ℕ, suc, _*_, _≤_, _<_}
 use borrow.Author.Tests.{le-leb, lt-leb, leb-true}
 use lib.Dec.{leb}
 use lib.ListN.{length}
@@ -14,12 +13,11 @@ use Rattle.rules.specs.declared.Refusal.the-variants.{Buffer}
 use Rattle.rules.specs.declared.Judged.{Judged}
 use Rattle.rules.specs.declared.Judged.the-variants as Judgement
 use Rattle.rules.proofs.Judging.{orElse-right, unless-true, and-left, and-right}
-use Rattle.sheet_text.specs.Reading.{Lines, refused, lines, sheetLines, graphIn}
+use Rattle.sheet_text.specs.Reading.{Lines, refused, sheetLines, graphIn}
 use Rattle.sheet_text.specs.Scanning.{counted, LinesAt}
 use Rattle.sheet_text.specs.declared.Counts.{Counts}
 use Rattle.sheet.specs.Reading.{Reading, turned, graph, roomFor, degreesJudged, afterLines, unlessRefused, readLines, sheetRead, readJudged, ReadAs}
 use Rattle.sheet.specs.Storing.{linesGraph, Stores}
-use Rattle.sheet.specs.declared.Sheet.{Sheet}
 use Rattle.sheet.specs.declared.Sheet.the-variants as Answer
 
 -- ---- what is refused after the last line

@@ -1,5 +1,5 @@
 -- A line of a sheet has at most ten bytes.
-use mathlib.Core.Path.{_≡_, refl, ap, _∙_}
+use mathlib.Core.Path.{_≡_, refl, ap}
 use mathlib.Core.Bool.{Bool, true, false}
 use mathlib.Core.List.{List}
 use Prim.Native.Nat.{ℕ, zero, suc, _+_, _*_, _/_, _≤_, _<_}
@@ -11,9 +11,8 @@ use Rattle.rules.specs.Ranges.{joined}
 use Rattle.rules.specs.Graphs.{Graph, Admitted, checkDegree}
 use Rattle.rules.proofs.Rows.{rowed, row-entries}
 use Rattle.lines.specs.Numbers.{decimal}
-use Rattle.lines.specs.Lines.{pair, lineText, linesText}
+use Rattle.lines.specs.Lines.{pair, lineText}
 use Rattle.lines.proofs.Putting.{one-digit, more-digits}
-use Rattle.sheet_text.specs.Texts.{rowEntries, entriesOf}
 use Rattle.sheet_writer.specs.Theorems.{SheetsShort}
 use Rattle.sheet_writer.proofs.Texts.{line-long, entryLine, rowLines, row-lines, all-lines, sheet-long}
 

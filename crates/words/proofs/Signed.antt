@@ -8,14 +8,14 @@ use native.Mathlib.Omega.{arith}
 use borrow.Author.Tests.{lt-ltb, le-ltb}
 use lib.Dec.{T}
 use lib.IntN.{ℤ, pos, negsuc, _+ℤ_, _-ℤ_, natAbs}
-use lib.ListN.{length, getD, take, drop}
+use lib.ListN.{length, getD, take}
 use lib.Signed.{nonNeg}
 use mir.Syntax.{w32, w64}
 use mir.Val.{toZ, ofZ, Fits, SFits}
 use mir.ValLaws.{toZ-pos, toZ-ofZ, toZ-fits, ofZ-fits, ofZ-toZ}
 use Rattle.words.specs.Words.{word, stored}
 use Rattle.words.specs.Roles.{sumAt, sumTable}
-use Rattle.words.proofs.Words.{word-bound, table-ext, at-table, put-table, put-next, table-self}
+use Rattle.words.proofs.Words.{word-bound, table-ext, at-table, put-table, table-self}
 
 widens : (z : ℤ) → SFits w32 z → SFits w64 z
 widens z f = record { sfits = omega (arith, f .sfits) }
@@ -98,10 +98,6 @@ pub sum-put-table : (g h : ℕ → ℤ) (n : ℕ) (t : List ℕ) (v : ℕ) (x : 
     → stored 4 (sumTable g n ++ t) (4 * v) (ofZ w32 x) ≡ sumTable h n ++ t
 sum-put-table g h n t v x l s o =
     put-table 4 (λ k. ofZ w32 (g k)) (λ k. ofZ w32 (h k)) n t v (ofZ w32 x) l (ap (ofZ w32) s) (λ j u d. ap (ofZ w32) (o j u d))
-
-pub sum-put-next : (g : ℕ → ℤ) (old : List ℕ) (v : ℕ) → 4 * (v + 1) ≤ length old
-    → stored 4 (sumTable g v ++ drop (4 * v) old) (4 * v) (ofZ w32 (g v)) ≡ sumTable g (v + 1) ++ drop (4 * (v + 1)) old
-sum-put-next g old v l = put-next 4 (λ k. ofZ w32 (g k)) old v l
 
 -- a list of sums as the table of its own numbers
 pub sum-self : (b : List ℕ) (n : ℕ) → 4 * n ≤ length b → ((j : ℕ) → getD b j 0 < 256) → sumTable (sumAt b) n ≡ take (4 * n) b

@@ -8,7 +8,7 @@ use native.Mathlib.Nat.{add-zero, mul-zero, mul-suc, pow-suc, pow-succ', mul-ass
 use native.Mathlib.Numerals.{add-one}
 use native.Mathlib.Omega.{arith}
 use lib.ListN.{length, getD, set, take, drop, length-set, length-append, length-drop, take-append-drop, List·getD-append}
-use lib.Seq.{length-take-le, append-snoc, set-at, getD-at, getD-set-other, getD-append-add, drop-at, drop-drop, drop-cons, take-add}
+use lib.Seq.{length-take-le, append-snoc, set-at, getD-at, getD-set-other, getD-append-add, drop-drop, drop-cons, take-add}
 use Rattle.rules.specs.Ranges.{joined}
 use Rattle.rules.proofs.Ranges.{joined-none, joined-ext, length-joined}
 use Rattle.words.specs.Words.{word, stored, bytes, table}
@@ -68,12 +68,6 @@ byte-at w p t k x r e h =
     ap (λ j. getD (p ++ (bytes w x ++ t)) (j + r) 0) (sym e) ∙ getD-append-add p (bytes w x ++ t) r 0
     ∙ List·getD-append (bytes w x) t 0 r (omega (arith, length-bytes w x))
 
--- byte r of a stored number
-pub byte-same : (w : ℕ) (b : List ℕ) (k x r : ℕ) → k + w ≤ length b → r < w → getD (stored w b k x) (k + r) 0 ≡ getD (bytes w x) r 0
-byte-same w b k x r l h =
-    ap (λ c. getD c (k + r) 0) (stored-is w b k x l)
-    ∙ byte-at w (take k b) (drop (k + w) b) k x r (length-take-le k b (omega arith)) h
-
 -- a byte outside a stored number
 pub byte-other : (w : ℕ) (b : List ℕ) (k x j : ℕ) → (j < k) ⊎ (k + w ≤ j) → getD (stored w b k x) j 0 ≡ getD b j 0
 unfolding stored
@@ -129,10 +123,6 @@ table-ext w f g n h = joined-ext (λ k. bytes w (f k)) (λ k. bytes w (g k)) n (
 pub length-table : (w : ℕ) (f : ℕ → ℕ) (n : ℕ) → length (table w f n) ≡ w * n
 unfolding table
 length-table w f n = length-joined w (λ k. bytes w (f k)) (λ k. length-bytes w (f k)) n
-
--- what follows a table
-pub drop-table : (w : ℕ) (f : ℕ → ℕ) (n : ℕ) (t : List ℕ) → drop (w * n) (table w f n ++ t) ≡ t
-drop-table w f n t = drop-at (table w f n) t (w * n) (length-table w f n)
 
 -- the number at a place of a table, whatever follows
 pub at-table : (w : ℕ) (f : ℕ → ℕ) (n : ℕ) (t : List ℕ) (j : ℕ) → j < n → f j < 256 ^ w → word w (table w f n ++ t) (w * j) ≡ f j

@@ -1,11 +1,6 @@
-use mathlib.Core.Path.{_≡_, sym, ap, _∙_}
-use mathlib.Core.List.{List}
-use Prim.Native.Nat.{ℕ}
+use mathlib.Core.Path.{sym, ap, _∙_}
 use native.Mathlib.Omega.{arith}
 use borrow.Author.Tests.{not-true, not-false}
-use Rattle.rules.specs.declared.Judged.{Judged}
-use Rattle.rules.specs.declared.Judged.the-variants.{Admitted}
-use Rattle.graph.specs.Judging.{graphJudged}
 use Rattle.graph.proofs.Meaning.{graph-admitted}
 use Rattle.channel.specs.declared.Settings.{Settings}
 use Rattle.channel.specs.Settings.{settings, settingsJudged, checked, settingsOf}

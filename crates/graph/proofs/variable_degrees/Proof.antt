@@ -12,7 +12,7 @@ use Rattle.rules.specs.declared.Judged.the-variants as Judgement
 use Rattle.rules.proofs.Judging.{Passed, passed-none, passed-more, passed-all, failed-at}
 use Rattle.graph.specs.Judging.{between, variableDegreesJudged}
 use Rattle.words.specs.Roles.{columnAt, graphOf}
-use Rattle.graph.proofs.Parts.{counts-told, columns-told}
+use Rattle.graph.proofs.Parts.{counts-told}
 use Rattle.graph.proofs.Loops.{variable-test, degree-few, tallied-degree}
 use Rattle.graph.proofs.variable_degrees.Statement.{statement}
 use Rattle.graph.proofs.variable_degrees.Tie as tie

@@ -1,4 +1,3 @@
-use mathlib.Core.Path.{_∙_}
 use native.Mathlib.Omega.{arith}
 use Rattle.decoder.proofs.Stepping.{rows-of, part-small, iterated-is}
 use borrow.Author.Needs.{needs}

@@ -1,10 +1,10 @@
 use borrow.Author.Needs.{needs}
-use mathlib.Core.Path.{_≡_, ap, _∙_}
+use mathlib.Core.Path.{ap, _∙_}
 use mathlib.Core.List.{List}
-use Prim.Native.Nat.{ℕ, _≤_, _<_, _-_, min}
+use Prim.Native.Nat.{ℕ, _≤_, _-_, min}
 use native.Mathlib.Omega.{arith}
-use lib.ListN.{length, getD}
-use Rattle.rules.specs.Levels.{Level, levelOf, byte}
+use lib.ListN.{length}
+use Rattle.rules.specs.Levels.{byte}
 use Rattle.rules.specs.Nodes.{firstMessage}
 use Rattle.rules.proofs.Filling.{Filled, filled-none, filled-more, filled-all}
 use Rattle.nodes.specs.Memory.{levelIn, onColumns}
