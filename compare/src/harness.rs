@@ -4,50 +4,18 @@ mod arena;
 pub mod check;
 mod programs;
 mod report;
+mod series;
 mod shrink;
 mod twins;
 
-use check::{Seen, check};
+use check::check;
 pub use programs::{refusal_number, run_programs};
+pub use series::{Budget, Failure, Series};
 
 use crate::generate::cases::{self, Case};
 use crate::interface::Decoder;
 use crate::random::Random;
-use std::collections::BTreeMap;
-use std::time::{Duration, Instant};
-
-/// How long a series goes on.
-#[derive(Clone, Copy, Debug)]
-pub enum Budget {
-    Inputs(u64),
-    Time(Duration),
-}
-
-impl Budget {
-    fn is_spent(&self, inputs: u64, begun: Instant) -> bool {
-        match *self {
-            Budget::Inputs(count) => inputs >= count,
-            Budget::Time(time) => begun.elapsed() >= time,
-        }
-    }
-}
-
-/// The first input of a series on which the decoder differs, shrunk.
-pub struct Failure {
-    pub input: u64,
-    pub case: Case,
-    pub message: String,
-}
-
-/// What a series has shown. The tally counts the inputs of each call by refusal number,
-/// 0 where nothing was refused, and the accepted decodes by iteration count.
-#[derive(Default)]
-pub struct Series {
-    pub inputs: u64,
-    pub tally: BTreeMap<(&'static str, u8), u64>,
-    pub iterations: BTreeMap<usize, u64>,
-    pub failure: Option<Failure>,
-}
+use std::time::Instant;
 
 /// Random inputs that come before those at the limits, so that a plain fault shows on a
 /// small one.
@@ -92,13 +60,4 @@ fn shrunk(case: Case, decoder: &dyn Decoder, input: u64) -> Failure {
     let case = shrink::shrink(case, |candidate| check(candidate, decoder, input).is_err());
     let message = check(&case, decoder, input).err().unwrap_or_default();
     Failure { input, case, message }
-}
-
-impl Series {
-    fn note(&mut self, seen: Seen) {
-        *self.tally.entry((seen.call, seen.refusal)).or_default() += 1;
-        if let Some(iterations) = seen.iterations {
-            *self.iterations.entry(iterations).or_default() += 1;
-        }
-    }
 }

@@ -1,6 +1,7 @@
 //! One input given to a decoder and to the paper.
 
 use super::arena::{Arena, Part};
+use super::series::Seen;
 use super::twins::check_twin;
 use crate::generate::cases::{Case, DecodeCase, ReadCase, WriteCase};
 use crate::interface::{
@@ -10,13 +11,6 @@ use crate::interface::{
 use crate::paper::{self, Graph, Level, Refusal};
 use crate::random::Random;
 use std::fmt::Debug;
-
-/// What the paper said of an input on which the decoder agrees.
-pub struct Seen {
-    pub call: &'static str,
-    pub refusal: u8,
-    pub iterations: Option<usize>,
-}
 
 /// Compares the answer, the place and every byte. `fill` seeds the bytes around.
 pub fn check(case: &Case, decoder: &dyn Decoder, fill: u64) -> Result<Seen, String> {

@@ -1,7 +1,7 @@
 //! The program itself, run as a process, against the paper's.
 
+use super::series::{Budget, Series};
 use super::shrink::{LONGEST, cut_down};
-use super::{Budget, Series};
 use crate::generate::cases::{self, ProgramCase};
 use crate::paper;
 use crate::random::Random;

@@ -1,6 +1,6 @@
 //! Cases and series in words.
 
-use super::{Failure, Series};
+use super::series::{Failure, Series};
 use crate::generate::cases::{Case, DecodeCase};
 use crate::interface::{f32_list, u16_list};
 use std::fmt::{self, Display, Formatter};

@@ -1,7 +1,7 @@
 //! Twin runs: values negated where a codeword is 1 give the mirrored run, by the decoder
 //! alone. Where the word is no codeword, some iteration limit shows a difference.
 
-use super::check::Seen;
+use super::series::Seen;
 use crate::generate::cases::{DecodeCase, TwinCase};
 use crate::interface::{
     Answer, DecodeInput, Decoded, Decoder, GraphBytes, Lent, Settings, u16_list,
