@@ -1,0 +1,81 @@
+//! The graphs and frames that decode is timed on.
+
+use crate::generate::codewords::Codewords;
+use crate::generate::graphs::{Lists, regular};
+use crate::interface::{LentLengths, Settings, Verdict, f32_bytes, f32_list};
+use crate::paper;
+use crate::random::Random;
+
+/// Frames of a batch on a regular graph.
+pub const FRAMES: usize = 6;
+
+const SETTINGS: Settings = Settings {
+    kind: 0,
+    gain: 2.5,
+    variance: 0.0,
+    channel: 4,
+    message: 4,
+    phi_s: 1,
+    phi_a: 1,
+    phi_0: 0,
+    limit: 50,
+};
+
+/// How frames end, and the standard deviation of the noise that mostly makes them end so.
+const ENDINGS: [(Verdict, f32); 2] = [(Verdict::Codeword, 0.62), (Verdict::Stopped, 1.0)];
+
+/// Frames on one graph. The ending is what most or all of them have.
+pub struct Batch {
+    pub lists: Lists,
+    pub settings: Settings,
+    pub ending: Verdict,
+    pub frames: Vec<Vec<u8>>,
+}
+
+/// Frames as they come, on a (3,6)-regular graph.
+pub fn noisy(random: &mut Random, n: usize) -> Vec<Batch> {
+    batches(random, n, |_, _, _| true)
+}
+
+/// Frames that have the ending after an iteration or more, on a small (3,6)-regular graph.
+pub fn chosen(random: &mut Random, n: usize) -> Vec<Batch> {
+    batches(random, n, |lists, ending, frame| {
+        let lent = LentLengths::needed(n, lists.columns.len());
+        let outcome = paper::decode(&lists.graph(), &f32_list(frame), &SETTINGS, &lent);
+        outcome.is_ok_and(|outcome| outcome.verdict == ending && outcome.iterations > 0)
+    })
+}
+
+/// The paper's whole example.
+pub fn example() -> Batch {
+    Batch {
+        lists: Lists::from_rows(3, &[vec![0, 1], vec![1, 2]]),
+        settings: Settings { gain: 1.0, channel: 3, message: 3, limit: 5, ..SETTINGS },
+        ending: Verdict::Codeword,
+        frames: vec![f32_bytes(&[2.5, -0.5, 1.5])],
+    }
+}
+
+/// A batch for each ending, of the frames that are wanted for it.
+fn batches(
+    random: &mut Random,
+    n: usize,
+    wanted: impl Fn(&Lists, Verdict, &[u8]) -> bool,
+) -> Vec<Batch> {
+    let lists = regular(random, n, 3, 6);
+    let codewords = Codewords::new(&lists);
+    let mut batch = |(ending, noise)| {
+        let drawn = std::iter::repeat_with(|| noisy_frame(random, &codewords, noise));
+        let frames = drawn.filter(|frame| wanted(&lists, ending, frame)).take(FRAMES).collect();
+        Batch { lists: lists.clone(), settings: SETTINGS, ending, frames }
+    };
+    ENDINGS.into_iter().map(&mut batch).collect()
+}
+
+/// A random codeword sent as +1 for 0 and -1 for 1, with noise.
+fn noisy_frame(random: &mut Random, codewords: &Codewords, noise: f32) -> Vec<u8> {
+    let word = codewords.random(random);
+    let sent = word.iter().map(|&bit| 1.0 - 2.0 * f32::from(bit));
+    let values: Vec<f32> = sent.map(|value| value + noise * random.normal()).collect();
+    f32_bytes(&values)
+}

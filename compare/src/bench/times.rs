@@ -1,0 +1,156 @@
+//! Times of each decoder on the same inputs, taken in turns. The median is what counts; the
+//! least shows what other work on the machine has added.
+
+use super::frames::Batch;
+use crate::generate::{Lists, texts};
+use crate::interface::{Answer, DecodeInput, Decoder, GraphBytes, Lent, LentLengths, u16_bytes};
+use std::hint::black_box;
+use std::time::{Duration, Instant};
+
+pub type Named<'a> = (&'a str, &'a dyn Decoder);
+
+pub const ROUNDS: usize = 101;
+
+/// What a measurement of repeated calls takes at least.
+pub const SHORTEST: Duration = Duration::from_micros(100);
+
+/// Of one decoder's measurements, in nanoseconds.
+#[derive(Clone, Copy)]
+pub struct Times {
+    pub median: f64,
+    pub least: f64,
+}
+
+/// Of a batch: the mean iteration count of a call, and each decoder's times per graph entry
+/// and iteration.
+pub struct DecodeTimes {
+    pub iterations: f64,
+    pub times: Vec<Times>,
+}
+
+/// One call a measurement, each round on the next frame.
+pub fn decode_once(decoders: &[Named], batch: &Batch) -> DecodeTimes {
+    Prepared::new(batch).times(decoders, 1)
+}
+
+/// As many calls a measurement as it needs to be long enough, on the frames in turn.
+pub fn decode_repeatedly(decoders: &[Named], batch: &Batch) -> DecodeTimes {
+    let mut prepared = Prepared::new(batch);
+    let calls = prepared.calls_that_are_long_enough(decoders);
+    prepared.times(decoders, calls)
+}
+
+/// A batch with its lists in bytes, and the buffers lent for it.
+struct Prepared<'a> {
+    batch: &'a Batch,
+    starts: Vec<u8>,
+    columns: Vec<u8>,
+    lent: [Vec<u8>; 5],
+}
+
+impl Prepared<'_> {
+    fn new(batch: &Batch) -> Prepared<'_> {
+        let lists = &batch.lists;
+        let lengths = LentLengths::needed(lists.n, lists.columns.len()).as_array();
+        Prepared {
+            batch,
+            starts: u16_bytes(&lists.starts),
+            columns: u16_bytes(&lists.columns),
+            lent: lengths.map(|length| vec![0; length]),
+        }
+    }
+
+    /// The time and the iterations of so many calls, on the frames in turn from the one of
+    /// that number on. The lent buffers are cleared before the first call; each later one
+    /// overwrites what the one before has left.
+    fn measure(&mut self, decoder: &dyn Decoder, first: usize, calls: usize) -> (Duration, usize) {
+        self.lent.iter_mut().for_each(|buffer| buffer.fill(0));
+        let Batch { lists, settings, frames, .. } = self.batch;
+        let graph = GraphBytes { n: lists.n, starts: &self.starts, columns: &self.columns };
+        let [levels, variable_messages, check_messages, sums, bits] = &mut self.lent;
+        let mut lent = Lent { levels, variable_messages, check_messages, sums, bits };
+        let mut iterations = 0;
+        let begun = Instant::now();
+        for call in first..first + calls {
+            let values = &frames[call % frames.len()];
+            let input = DecodeInput { graph, values, settings: *settings };
+            let answer = black_box(decoder.decode(black_box(&input), &mut lent));
+            let Answer::Accepted(decoded) = answer else {
+                panic!("a frame of the benchmark is answered {answer:?}");
+            };
+            iterations += decoded.iterations;
+        }
+        (begun.elapsed(), iterations)
+    }
+
+    /// Whole turns through the frames.
+    fn calls_that_are_long_enough(&mut self, decoders: &[Named]) -> usize {
+        let mut calls = self.batch.frames.len();
+        loop {
+            let tries = decoders.iter().cycle().take(5 * decoders.len());
+            let times = tries.map(|(_, decoder)| self.measure(*decoder, 0, calls).0);
+            if times.min() >= Some(SHORTEST) {
+                return calls;
+            }
+            calls *= 2;
+        }
+    }
+
+    fn times(&mut self, decoders: &[Named], calls: usize) -> DecodeTimes {
+        let entries = self.batch.lists.columns.len();
+        let mut total = 0;
+        let times = in_turns(decoders, |decoder, round| {
+            let (time, iterations) = self.measure(decoder, round * calls, calls);
+            total += iterations;
+            time.as_nanos() as f64 / (iterations * entries) as f64
+        });
+        let iterations = total as f64 / (decoders.len() * ROUNDS * calls) as f64;
+        DecodeTimes { iterations, times }
+    }
+}
+
+pub fn read_times(decoders: &[Named], lists: &Lists) -> Vec<Times> {
+    let text = texts::sheet(lists);
+    let mut starts = vec![0; 2 * lists.starts.len()];
+    let mut columns = vec![0; 2 * lists.columns.len()];
+    in_turns(decoders, |decoder, _| {
+        starts.fill(0);
+        columns.fill(0);
+        let begun = Instant::now();
+        let answer = black_box(decoder.read_sheet(black_box(&text), &mut starts, &mut columns));
+        accepted_time(begun.elapsed(), &answer)
+    })
+}
+
+pub fn write_times(decoders: &[Named], lists: &Lists) -> Vec<Times> {
+    let (starts, columns) = (u16_bytes(&lists.starts), u16_bytes(&lists.columns));
+    let graph = GraphBytes { n: lists.n, starts: &starts, columns: &columns };
+    let mut text = vec![0; texts::sheet(lists).len()];
+    in_turns(decoders, |decoder, _| {
+        text.fill(0);
+        let begun = Instant::now();
+        let answer = black_box(decoder.write_sheet(black_box(&graph), &mut text));
+        accepted_time(begun.elapsed(), &answer)
+    })
+}
+
+fn accepted_time<T>(time: Duration, answer: &Answer<T>) -> f64 {
+    assert!(matches!(answer, Answer::Accepted(_)), "a sheet of the benchmark is refused");
+    time.as_nanos() as f64
+}
+
+/// Each decoder once a round, round after round.
+fn in_turns(decoders: &[Named], mut measure: impl FnMut(&dyn Decoder, usize) -> f64) -> Vec<Times> {
+    let mut times = vec![Vec::new(); decoders.len()];
+    for round in 0..ROUNDS {
+        for (index, (_, decoder)) in decoders.iter().enumerate() {
+            times[index].push(measure(*decoder, round));
+        }
+    }
+    times.into_iter().map(summed_up).collect()
+}
+
+fn summed_up(mut times: Vec<f64>) -> Times {
+    times.sort_by(f64::total_cmp);
+    Times { median: times[times.len() / 2], least: times[0] }
+}
