@@ -4,6 +4,7 @@
 pub mod decode;
 pub mod graph;
 pub mod sheet;
+mod tables;
 
 use crate::interface::{
     Answer, DecodeInput, Decoded, Decoder, GraphBytes, Lent, LentLengths, Refusal, SheetCounts,

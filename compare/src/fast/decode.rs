@@ -1,26 +1,10 @@
 //! A flooding decoder: the two least magnitudes of each row, sums scattered along the
-//! rows, outgoing messages from a table that is made once from nine magnitudes.
+//! rows, outgoing messages from a constant table.
 
+use super::tables::{HALVES, MINUS, Outgoing};
 use super::{graph, lists};
 use crate::interface::{
     DecodeInput, Decoded, Lent, LentLengths, Refusal, Settings, Verdict, f32_list,
-};
-
-const MINUS: u8 = 0x80;
-
-/// No sum is larger than 2 × 7 + 2 + 32 × 15 = 496.
-const MIDDLE: i32 = 512;
-
-/// A message's contribution in halves: its odd size with its sign.
-const HALVES: [i32; 256] = {
-    let mut halves = [0; 256];
-    let mut byte = 0;
-    while byte < 256 {
-        let size = 2 * (byte as i32 & 0x7f) + 1;
-        halves[byte] = if byte < 128 { size } else { -size };
-        byte += 1;
-    }
-    halves
 };
 
 /// A frame that nothing is wrong with.
@@ -32,7 +16,7 @@ pub struct Frame {
     factor: f32,
     nch: u8,
     nq: u8,
-    outgoing: [u8; 1024],
+    outgoing: &'static Outgoing,
     limit: usize,
 }
 
@@ -80,7 +64,7 @@ pub fn prepare(input: &DecodeInput, lent: &LentLengths) -> Result<Frame, Refusal
         factor,
         nch,
         nq,
-        outgoing: outgoing_messages(&magnitudes(nq, settings)),
+        outgoing: Outgoing::of(settings),
         limit: settings.limit as usize,
     })
 }
@@ -93,27 +77,6 @@ fn factor(settings: &Settings) -> Option<f32> {
         1 => (usable(gain) && usable(variance)).then_some((2.0 * gain) / variance),
         _ => None,
     }
-}
-
-/// The outgoing magnitude by F, larger F as 8.
-fn magnitudes(nq: u8, settings: &Settings) -> [u8; 9] {
-    let mut table = [nq; 9];
-    for f in 2..nq {
-        table[f as usize] = f - settings.phi_a as u8;
-    }
-    table[1] = 1 - settings.phi_0 as u8;
-    table[nq as usize] = nq - settings.phi_s as u8;
-    table[0] = 0;
-    table
-}
-
-/// The outgoing message by its sum, which stands at `MIDDLE` + sum.
-fn outgoing_messages(magnitudes: &[u8; 9]) -> [u8; 1024] {
-    std::array::from_fn(|index| {
-        let sum = index as i32 - MIDDLE;
-        let f = (sum.unsigned_abs() as usize / 2).min(8);
-        magnitudes[f] | if sum < 0 { MINUS } else { 0 }
-    })
 }
 
 pub fn run(frame: &Frame, lent: &mut Lent) -> Decoded {
@@ -221,6 +184,6 @@ fn send_from_checks(frame: &Frame, from: &[u8], to: &mut [u8], sums: &mut [i32])
 fn send_from_variables(frame: &Frame, sums: &[i32], from: &[u8], to: &mut [u8]) {
     for ((&message, out), &column) in from.iter().zip(to).zip(&frame.columns) {
         let sum = sums[usize::from(column)] - HALVES[usize::from(message)];
-        *out = frame.outgoing[(MIDDLE + sum) as usize & 1023];
+        *out = frame.outgoing.message(sum);
     }
 }
