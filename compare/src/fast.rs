@@ -8,7 +8,6 @@ mod tables;
 
 use crate::interface::{
     Answer, DecodeInput, Decoded, Decoder, GraphBytes, Lent, LentLengths, Refusal, SheetCounts,
-    u16_list,
 };
 
 pub struct Fast;
@@ -44,8 +43,8 @@ impl Decoder for Fast {
     ) -> Answer<SheetCounts> {
         match sheet::read(text, starts.len(), columns.len()) {
             Ok(read) => {
-                copy_list(&read.starts, starts);
-                copy_list(&read.columns, columns);
+                starts[..2 * read.starts.len()].copy_from_slice(read.starts.as_flattened());
+                columns[..2 * read.columns.len()].copy_from_slice(read.columns.as_flattened());
                 Answer::Accepted(SheetCounts {
                     n: read.n,
                     m: read.starts.len() - 1,
@@ -70,15 +69,4 @@ impl Decoder for Fast {
     fn write_sheet_place(&self, graph: &GraphBytes, text: usize) -> usize {
         place(sheet::measure(graph, text))
     }
-}
-
-fn copy_list(list: &[u16], bytes: &mut [u8]) {
-    for (element, out) in list.iter().zip(bytes.chunks_exact_mut(2)) {
-        out.copy_from_slice(&element.to_le_bytes());
-    }
-}
-
-/// The lists of a graph, for those who go through them more than once.
-fn lists(graph: &GraphBytes) -> (Vec<u16>, Vec<u16>) {
-    (u16_list(graph.starts), u16_list(graph.columns))
 }

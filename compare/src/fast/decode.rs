@@ -1,18 +1,16 @@
 //! A flooding decoder: the two least magnitudes of each row, sums scattered along the
 //! rows, outgoing messages from a constant table.
 
+use super::graph::{self, Word, number};
 use super::tables::{HALVES, MINUS, Outgoing};
-use super::{graph, lists};
-use crate::interface::{
-    DecodeInput, Decoded, Lent, LentLengths, Refusal, Settings, Verdict, f32_list,
-};
+use crate::interface::{DecodeInput, Decoded, Lent, LentLengths, Refusal, Settings, Verdict};
 
 /// A frame that nothing is wrong with.
-pub struct Frame {
-    starts: Vec<u16>,
-    columns: Vec<u16>,
+pub struct Frame<'a> {
+    starts: &'a [Word],
+    columns: &'a [Word],
     degrees: Vec<u16>,
-    values: Vec<f32>,
+    values: &'a [[u8; 4]],
     factor: f32,
     nch: u8,
     nq: u8,
@@ -20,12 +18,12 @@ pub struct Frame {
     limit: usize,
 }
 
-pub fn prepare(input: &DecodeInput, lent: &LentLengths) -> Result<Frame, Refusal> {
+pub fn prepare<'a>(input: &DecodeInput<'a>, lent: &LentLengths) -> Result<Frame<'a>, Refusal> {
     let refuse = |number, place| Err(Refusal { number, place });
-    let (starts, columns) = lists(&input.graph);
+    let (starts, columns) = graph::lists(&input.graph);
     let n = input.graph.n;
-    let degrees = graph::check(n, &starts, &columns)?;
-    let values = f32_list(input.values);
+    let degrees = graph::check(n, starts, columns)?;
+    let values = input.values.as_chunks().0;
     if values.len() != n {
         return refuse(13, values.len());
     }
@@ -46,7 +44,7 @@ pub fn prepare(input: &DecodeInput, lent: &LentLengths) -> Result<Frame, Refusal
     if !(factor > 0.0 && factor <= f32::MAX) {
         return refuse(11, 0);
     }
-    if let Some(index) = values.iter().position(|value| !value.is_finite()) {
+    if let Some(index) = values.iter().position(|&value| !f32::from_le_bytes(value).is_finite()) {
         return refuse(12, index);
     }
     let entries = columns.len();
@@ -87,8 +85,8 @@ pub fn run(frame: &Frame, lent: &mut Lent) -> Decoded {
     let bits = &mut lent.bits[..n];
 
     quantise(frame, levels);
-    for (message, &column) in variable_messages.iter_mut().zip(&frame.columns) {
-        let level = levels[usize::from(column)];
+    for (message, &column) in variable_messages.iter_mut().zip(frame.columns) {
+        let level = levels[number(column)];
         *message = (level & MINUS) | (level & 0x7f).min(frame.nq);
     }
     for (bit, &level) in bits.iter_mut().zip(levels.iter()) {
@@ -125,7 +123,8 @@ pub fn run(frame: &Frame, lent: &mut Lent) -> Decoded {
 }
 
 fn quantise(frame: &Frame, levels: &mut [u8]) {
-    for (level, value) in levels.iter_mut().zip(&frame.values) {
+    for (level, &value) in levels.iter_mut().zip(frame.values) {
+        let value = f32::from_le_bytes(value);
         let p = frame.factor * value.abs();
         let mut magnitude = 0;
         for threshold in 1..=frame.nch {
@@ -148,21 +147,16 @@ fn channel_halves(levels: &[u8], degrees: &[u16]) -> Vec<i32> {
     levels.iter().zip(degrees).map(halves).collect()
 }
 
-fn rows(frame: &Frame) -> impl Iterator<Item = (usize, usize)> {
-    let pairs = frame.starts.windows(2);
-    pairs.map(|pair| (usize::from(pair[0]), usize::from(pair[1])))
-}
-
 fn odd_checks(frame: &Frame, bits: &[u8]) -> impl Iterator<Item = bool> {
-    rows(frame).map(|(start, end)| {
+    graph::rows(frame.starts).map(|(start, end)| {
         let columns = frame.columns[start..end].iter();
-        let parity = columns.fold(0, |parity, &column| parity ^ bits[usize::from(column)]);
+        let parity = columns.fold(0, |parity, &column| parity ^ bits[number(column)]);
         parity == 1
     })
 }
 
 fn send_from_checks(frame: &Frame, from: &[u8], to: &mut [u8], sums: &mut [i32]) {
-    for (start, end) in rows(frame) {
+    for (start, end) in graph::rows(frame.starts) {
         let (mut least, mut second, mut signs) = (u8::MAX, u8::MAX, 0);
         for &message in &from[start..end] {
             let magnitude = message & 0x7f;
@@ -176,14 +170,14 @@ fn send_from_checks(frame: &Frame, from: &[u8], to: &mut [u8], sums: &mut [i32])
             let magnitude = if own & 0x7f == least { second } else { least };
             let message = magnitude | ((signs ^ own) & MINUS);
             *out = message;
-            sums[usize::from(column)] += HALVES[usize::from(message)];
+            sums[number(column)] += HALVES[usize::from(message)];
         }
     }
 }
 
 fn send_from_variables(frame: &Frame, sums: &[i32], from: &[u8], to: &mut [u8]) {
-    for ((&message, out), &column) in from.iter().zip(to).zip(&frame.columns) {
-        let sum = sums[usize::from(column)] - HALVES[usize::from(message)];
+    for ((&message, out), &column) in from.iter().zip(to).zip(frame.columns) {
+        let sum = sums[number(column)] - HALVES[usize::from(message)];
         *out = frame.outgoing.message(sum);
     }
 }

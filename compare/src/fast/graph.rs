@@ -1,13 +1,30 @@
-//! The graph's check in few passes over the lists.
+//! The graph's lists where they stand, and its check in few passes over them.
 
-use crate::interface::Refusal;
+use crate::interface::{GraphBytes, Refusal};
+
+/// A number of a list, lowest byte first.
+pub type Word = [u8; 2];
+
+pub fn number(word: Word) -> usize {
+    usize::from(u16::from_le_bytes(word))
+}
+
+/// The starts and the columns.
+pub fn lists<'a>(graph: &GraphBytes<'a>) -> (&'a [Word], &'a [Word]) {
+    (graph.starts.as_chunks().0, graph.columns.as_chunks().0)
+}
+
+/// Where each row begins and ends.
+pub fn rows(starts: &[Word]) -> impl Iterator<Item = (usize, usize)> {
+    starts.windows(2).map(|pair| (number(pair[0]), number(pair[1])))
+}
 
 fn refusal(number: u8, place: usize) -> Refusal {
     Refusal { number, place }
 }
 
 /// The variables' degrees, where nothing is refused.
-pub fn check(n: usize, starts: &[u16], columns: &[u16]) -> Result<Vec<u16>, Refusal> {
+pub fn check(n: usize, starts: &[Word], columns: &[Word]) -> Result<Vec<u16>, Refusal> {
     let counts_fit =
         (2..=8_192).contains(&n) && (2..=8_193).contains(&starts.len()) && columns.len() <= 32_768;
     if !counts_fit {
@@ -16,16 +33,15 @@ pub fn check(n: usize, starts: &[u16], columns: &[u16]) -> Result<Vec<u16>, Refu
     check_starts(starts, columns.len())?;
     let mut degrees = vec![0; n];
     for (index, &column) in columns.iter().enumerate() {
-        match degrees.get_mut(usize::from(column)) {
+        match degrees.get_mut(number(column)) {
             Some(degree) => *degree += 1,
             None => return Err(refusal(3, index)),
         }
     }
     let mut bad_check = None;
-    for (check, ends) in starts.windows(2).enumerate() {
-        let (start, end) = (usize::from(ends[0]), usize::from(ends[1]));
+    for (check, (start, end)) in rows(starts).enumerate() {
         let row = &columns[start..end];
-        if let Some(index) = row.windows(2).position(|pair| pair[1] <= pair[0]) {
+        if let Some(index) = row.windows(2).position(|pair| number(pair[1]) <= number(pair[0])) {
             return Err(refusal(4, start + index + 1));
         }
         if !(2..=64).contains(&row.len()) && bad_check.is_none() {
@@ -41,15 +57,15 @@ pub fn check(n: usize, starts: &[u16], columns: &[u16]) -> Result<Vec<u16>, Refu
     }
 }
 
-fn check_starts(starts: &[u16], entries: usize) -> Result<(), Refusal> {
-    if starts[0] != 0 {
+fn check_starts(starts: &[Word], entries: usize) -> Result<(), Refusal> {
+    if number(starts[0]) != 0 {
         return Err(refusal(7, 0));
     }
-    if let Some(index) = starts.windows(2).position(|pair| pair[1] < pair[0]) {
+    if let Some(index) = rows(starts).position(|(start, end)| end < start) {
         return Err(refusal(7, index + 1));
     }
     let last = starts.len() - 1;
-    if usize::from(starts[last]) != entries {
+    if number(starts[last]) != entries {
         return Err(refusal(7, last));
     }
     Ok(())

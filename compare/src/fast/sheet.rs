@@ -1,6 +1,6 @@
 //! The sheet read in one pass over its bytes, and written straight into the lent text.
 
-use super::{graph, lists};
+use super::graph::{self, Word, number};
 use crate::interface::{GraphBytes, Refusal};
 
 const TOP: &[u8] = b"variables checks\n";
@@ -9,8 +9,8 @@ const MOST_ENTRIES: usize = 32_768;
 
 pub struct Read {
     pub n: usize,
-    pub starts: Vec<u16>,
-    pub columns: Vec<u16>,
+    pub starts: Vec<Word>,
+    pub columns: Vec<Word>,
 }
 
 pub fn read(text: &[u8], starts_lent: usize, columns_lent: usize) -> Result<Read, Refusal> {
@@ -22,7 +22,7 @@ pub fn read(text: &[u8], starts_lent: usize, columns_lent: usize) -> Result<Read
     }
     rest = rest.strip_prefix(MIDDLE).ok_or(refusal(1, 3))?;
 
-    let mut starts = vec![0];
+    let mut starts = vec![[0; 2]];
     let mut columns = Vec::new();
     let mut above = None;
     while !rest.is_empty() {
@@ -38,10 +38,10 @@ pub fn read(text: &[u8], starts_lent: usize, columns_lent: usize) -> Result<Read
             return Err(refusal(4, line));
         }
         above = Some(entry);
-        starts.resize(1 + entry.0 as usize, columns.len() as u16);
-        columns.push(entry.1 as u16);
+        starts.resize(1 + entry.0 as usize, (columns.len() as u16).to_le_bytes());
+        columns.push((entry.1 as u16).to_le_bytes());
     }
-    starts.resize(1 + m as usize, columns.len() as u16);
+    starts.resize(1 + m as usize, (columns.len() as u16).to_le_bytes());
     graph::check(n as usize, &starts, &columns)?;
     if starts_lent / 2 < starts.len() || columns_lent / 2 < columns.len() {
         return Err(refusal(6, 0));
@@ -81,15 +81,15 @@ fn digits(number: usize) -> usize {
 
 /// The text's length, where nothing is refused.
 pub fn measure(graph: &GraphBytes, text_lent: usize) -> Result<usize, Refusal> {
-    let (starts, columns) = lists(graph);
-    graph::check(graph.n, &starts, &columns)?;
+    let (starts, columns) = graph::lists(graph);
+    graph::check(graph.n, starts, columns)?;
     let m = starts.len() - 1;
     let mut length = TOP.len() + digits(graph.n) + digits(m) + 2 + MIDDLE.len();
-    for (check, pair) in starts.windows(2).enumerate() {
-        length += (digits(check) + 2) * usize::from(pair[1] - pair[0]);
+    for (check, (start, end)) in graph::rows(starts).enumerate() {
+        length += (digits(check) + 2) * (end - start);
     }
-    for &column in &columns {
-        length += digits(usize::from(column));
+    for &column in columns {
+        length += digits(number(column));
     }
     if text_lent < length {
         return Err(Refusal { number: 6, place: 0 });
@@ -99,14 +99,14 @@ pub fn measure(graph: &GraphBytes, text_lent: usize) -> Result<usize, Refusal> {
 
 /// Writes a measured graph; gives the text's length.
 pub fn write(graph: &GraphBytes, text: &mut [u8]) -> usize {
-    let (starts, columns) = lists(graph);
+    let (starts, columns) = graph::lists(graph);
     let mut at = 0;
     put(text, &mut at, TOP);
     put_pair(text, &mut at, graph.n, starts.len() - 1);
     put(text, &mut at, MIDDLE);
-    for (check, pair) in starts.windows(2).enumerate() {
-        for &column in &columns[usize::from(pair[0])..usize::from(pair[1])] {
-            put_pair(text, &mut at, check, usize::from(column));
+    for (check, (start, end)) in graph::rows(starts).enumerate() {
+        for &column in &columns[start..end] {
+            put_pair(text, &mut at, check, number(column));
         }
     }
     at
