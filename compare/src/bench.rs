@@ -6,7 +6,7 @@ mod times;
 use crate::generate::{Lists, texts};
 use crate::interface::Verdict;
 use crate::random::Random;
-use frames::{Batch, FRAMES};
+use frames::{Batch, FRAMES, SMALL_FRAMES};
 use times::{DecodeTimes, Named, ROUNDS, SHORTEST, Times};
 
 const SEED: u64 = 36;
@@ -40,9 +40,9 @@ fn large_graphs(decoders: &[Named]) -> Option<Lists> {
 
 /// Each graph has a generator of its own, so that no frame depends on other rows.
 fn small_graphs(decoders: &[Named]) {
-    let shortest = SHORTEST.as_micros();
-    println!("decode on the paper's example and on small (3,6)-regular graphs, the calls on all");
-    println!("frames repeated for {shortest} microseconds or more a measurement;");
+    let (frames, shortest) = (SMALL_FRAMES, SHORTEST.as_micros());
+    println!("decode on the paper's example, and on small (3,6)-regular graphs with {frames}");
+    println!("frames each, one after the other for {shortest} microseconds or more a measurement;");
     println!("nanoseconds per graph entry and iteration, and for a call:");
     heading(&["n", "entries", "frames", "iterations"], decoders, &["a call"]);
     let chosen = SMALL_SIZES.map(|n| frames::chosen(&mut Random::for_input(SEED, n as u64), n));

@@ -6,8 +6,12 @@ use crate::interface::{LentLengths, Settings, Verdict, f32_bytes, f32_list};
 use crate::paper;
 use crate::random::Random;
 
-/// Frames of a batch on a regular graph.
+/// Frames of a batch on a large graph.
 pub const FRAMES: usize = 6;
+
+/// Frames of a batch on a small graph: more than a processor's branch prediction can learn,
+/// as frames in use are always new.
+pub const SMALL_FRAMES: usize = 2_000;
 
 const SETTINGS: Settings = Settings {
     kind: 0,
@@ -34,12 +38,12 @@ pub struct Batch {
 
 /// Frames as they come, on a (3,6)-regular graph.
 pub fn noisy(random: &mut Random, n: usize) -> Vec<Batch> {
-    batches(random, n, |_, _, _| true)
+    batches(random, n, FRAMES, |_, _, _| true)
 }
 
 /// Frames that have the ending after an iteration or more, on a small (3,6)-regular graph.
 pub fn chosen(random: &mut Random, n: usize) -> Vec<Batch> {
-    batches(random, n, |lists, ending, frame| {
+    batches(random, n, SMALL_FRAMES, |lists, ending, frame| {
         let lent = LentLengths::needed(n, lists.columns.len());
         let outcome = paper::decode(&lists.graph(), &f32_list(frame), &SETTINGS, &lent);
         outcome.is_ok_and(|outcome| outcome.verdict == ending && outcome.iterations > 0)
@@ -56,17 +60,18 @@ pub fn example() -> Batch {
     }
 }
 
-/// A batch for each ending, of the frames that are wanted for it.
+/// A batch for each ending, of so many frames that are wanted for it.
 fn batches(
     random: &mut Random,
     n: usize,
+    count: usize,
     wanted: impl Fn(&Lists, Verdict, &[u8]) -> bool,
 ) -> Vec<Batch> {
     let lists = regular(random, n, 3, 6);
     let codewords = Codewords::new(&lists);
     let mut batch = |(ending, noise)| {
         let drawn = std::iter::repeat_with(|| noisy_frame(random, &codewords, noise));
-        let frames = drawn.filter(|frame| wanted(&lists, ending, frame)).take(FRAMES).collect();
+        let frames = drawn.filter(|frame| wanted(&lists, ending, frame)).take(count).collect();
         Batch { lists: lists.clone(), settings: SETTINGS, ending, frames }
     };
     ENDINGS.into_iter().map(&mut batch).collect()

@@ -28,12 +28,12 @@ pub struct DecodeTimes {
     pub times: Vec<Times>,
 }
 
-/// One call a measurement, each round on the next frame.
+/// One call a measurement.
 pub fn decode_once(decoders: &[Named], batch: &Batch) -> DecodeTimes {
     Prepared::new(batch).times(decoders, 1)
 }
 
-/// As many calls a measurement as it needs to be long enough, on the frames in turn.
+/// As many calls a measurement as make it long enough.
 pub fn decode_repeatedly(decoders: &[Named], batch: &Batch) -> DecodeTimes {
     let mut prepared = Prepared::new(batch);
     let calls = prepared.calls_that_are_long_enough(decoders);
@@ -83,9 +83,8 @@ impl Prepared<'_> {
         (begun.elapsed(), iterations)
     }
 
-    /// Whole turns through the frames.
     fn calls_that_are_long_enough(&mut self, decoders: &[Named]) -> usize {
-        let mut calls = self.batch.frames.len();
+        let mut calls = 1;
         loop {
             let tries = decoders.iter().cycle().take(5 * decoders.len());
             let times = tries.map(|(_, decoder)| self.measure(*decoder, 0, calls).0);
@@ -96,6 +95,7 @@ impl Prepared<'_> {
         }
     }
 
+    /// Each round goes on with the frames where the one before has stopped.
     fn times(&mut self, decoders: &[Named], calls: usize) -> DecodeTimes {
         let entries = self.batch.lists.columns.len();
         let mut total = 0;
