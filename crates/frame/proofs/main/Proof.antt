@@ -14,11 +14,11 @@ slice-aggregate-read-file-2 c = search needs
 read-file-requires : tie.Need-read-file-requires
 read-file-requires c κs = search needs
 
-slice-aggregate-read-full : tie.Need-slice-aggregate-read-full
-slice-aggregate-read-full c = search needs
+slice-aggregate-read-whole : tie.Need-slice-aggregate-read-whole
+slice-aggregate-read-whole c = search needs
 
-read-full-requires : tie.Need-read-full-requires
-read-full-requires c κs = search needs
+read-whole-requires : tie.Need-read-whole-requires
+read-whole-requires c κs = search needs
 
 array-share-prefix-sheet : tie.Need-array-share-prefix-sheet
 array-share-prefix-sheet c = search needs
@@ -41,11 +41,11 @@ answer-requires c κs = search needs
 array-share-prefix-out : tie.Need-array-share-prefix-out
 array-share-prefix-out c = answer-within (c .before .answer .ensures)
 
-slice-aggregate-write-all : tie.Need-slice-aggregate-write-all
-slice-aggregate-write-all c = sym (length-take-le (c .before .before .answer .result) (c .before .before .answer .last .1 .1 .0) (answer-within (c .before .before .answer .ensures)))
+slice-aggregate-write-answer : tie.Need-slice-aggregate-write-answer
+slice-aggregate-write-answer c = sym (length-take-le (c .before .before .answer .result) (c .before .before .answer .last .1 .1 .0) (answer-within (c .before .before .answer .ensures)))
 
-write-all-requires : tie.Need-write-all-requires
-write-all-requires c κs = search needs
+write-answer-requires : tie.Need-write-answer-requires
+write-answer-requires c κs = search needs
 
 returns : tie.Need-returns
 returns c = search needs
@@ -57,8 +57,8 @@ main-spec =
     slice-aggregate-read-file
     slice-aggregate-read-file-2
     read-file-requires
-    slice-aggregate-read-full
-    read-full-requires
+    slice-aggregate-read-whole
+    read-whole-requires
     array-share-prefix-sheet
     slice-aggregate-answer
     array-share-prefix-run
@@ -66,6 +66,6 @@ main-spec =
     slice-aggregate-answer-3
     answer-requires
     array-share-prefix-out
-    slice-aggregate-write-all
-    write-all-requires
+    slice-aggregate-write-answer
+    write-answer-requires
     returns)
