@@ -1,4 +1,4 @@
-/* The film frame decoder, for C. Link libhost.a, which `rt staticlib host` writes to target/staticlib.
+/* The film frame decoder, for C. `make lib` leaves this header, libframe.a and libframe.so in target/lib; link with -lframe.
 
    Every list is bytes, lowest byte first, at any address: u16 and f32 elements are 2 and 4 bytes, a list's count is its length divided
    by that and rounded down. Every length is in bytes; where it is 0 the pointer is not looked at. What is lent may not overlap
