@@ -1,5 +1,5 @@
-// Files read and written whole. A call that a signal interrupts is made again, so many times for a
-// file at most: every loop must end.
+// Files read and written whole. A call that a signal interrupts is made again, at most REPEATS times
+// for a file, so that every loop ends.
 ghost use Rattle.io.specs.Counts.{Counts};
 use libc::EINTR;
 
