@@ -6,10 +6,10 @@ use native.Mathlib.Numerals.{add-one}
 use native.Mathlib.Omega.{arith}
 use borrow.Author.Tests.{ltb-true, ltb-false, lt-ltb, le-ltb}
 use lib.Dec.{ltb}
-use Rattle.rules.specs.Graphs.{Graph, Admitted, Rowed, checkDegree, checkOf}
+use Rattle.rules.specs.Graphs.{Graph, Limits, AdmittedWithin, Rowed, checkDegree, checkOf}
 use Rattle.rules.proofs.Ranges.{First, first-is, first-only}
 
-pub rowed : {G : Graph} → Admitted G → Rowed G
+pub rowed : {L : Limits} {G : Graph} → AdmittedWithin L G → Rowed G
 rowed ok = record { begins = ok .begins; ends = ok .ends; rises = λ i h. ok .checkDegrees i h .0 }
 
 module _ (G : Graph) (ok : Rowed G) where
@@ -57,9 +57,9 @@ module _ (G : Graph) (ok : Rowed G) where
     found = λ _. lt-ltb e (G .start (suc i)) u;
   })
 
--- where row i begins and ends, as read: two to 64 entries of the graph
-pub admitted-row : (G : Graph) → Admitted G → (i : ℕ) {a b : ℕ} → i < G .checks → a ≡ G .start i → b ≡ G .start (i + 1)
-    → (a + 2 ≤ b) × (b ≤ a + 64) × (b ≤ G .entries)
+-- where row i begins and ends, as read: at least two entries of the graph, and within the limit
+pub admitted-row : {L : Limits} (G : Graph) → AdmittedWithin L G → (i : ℕ) {a b : ℕ} → i < G .checks → a ≡ G .start i → b ≡ G .start (i + 1)
+    → (a + 2 ≤ b) × (b ≤ a + L .checkDegree) × (b ≤ G .entries)
 admitted-row G ok i l p q =
     let d = ok .checkDegrees i l in
     let r : G .start (i + 1) ≡ G .start (suc i) = ap (G .start) (add-one i) in

@@ -25,18 +25,46 @@ variableDegree G v = count (λ e. eqb (G .column e) v) 0 (G .entries)
 unfoldable pub checkOf : Graph → ℕ → ℕ
 checkOf G e = first (λ i. ltb e (G .start (suc i))) 0 (G .checks)
 
--- 'Admitted: n from 2 to 8,192; m from 1 to 8,192; E at most 32,768; check degree 2 to 64; variable degree 1 to 32', with
--- starts that begin at 0 and end at E, columns below n, and 'each row's columns strictly rising'.
-pub record Admitted (G : Graph) : Type 0 where
-  pub variables : (2 ≤ G .variables) × (G .variables ≤ 8192)
-  pub checks : (1 ≤ G .checks) × (G .checks ≤ 8192)
-  pub entries : G .entries ≤ 32768
+-- The largest numbers that a graph may have.
+pub record Limits : Type 0 where
+  pub variables : ℕ
+  pub checks : ℕ
+  pub entries : ℕ
+  pub checkDegree : ℕ
+  pub variableDegree : ℕ
+
+-- 'n from 2 to 8,192; m from 1 to 8,192; E at most 32,768; check degree 2 to 64; variable degree 1 to 32.'
+abbrev pub limits : Limits
+limits = record { variables = 8192; checks = 8192; entries = 32768; checkDegree = 64; variableDegree = 32 }
+
+-- The least numbers, which are the same under any limits.
+abbrev pub fewestVariables : ℕ
+fewestVariables = 2
+
+abbrev pub fewestChecks : ℕ
+fewestChecks = 1
+
+abbrev pub leastCheckDegree : ℕ
+leastCheckDegree = 2
+
+abbrev pub leastVariableDegree : ℕ
+leastVariableDegree = 1
+
+-- A graph within limits L, with starts that begin at 0 and end at E, columns below n, and 'each row's columns strictly rising'.
+pub record AdmittedWithin (L : Limits) (G : Graph) : Type 0 where
+  pub variables : (fewestVariables ≤ G .variables) × (G .variables ≤ L .variables)
+  pub checks : (fewestChecks ≤ G .checks) × (G .checks ≤ L .checks)
+  pub entries : G .entries ≤ L .entries
   pub begins : G .start 0 ≡ 0
   pub ends : G .start (G .checks) ≡ G .entries
   pub within : (e : ℕ) → e < G .entries → G .column e < G .variables
   pub rising : (i e : ℕ) → i < G .checks → G .start i ≤ e → suc e < G .start (suc i) → G .column e < G .column (suc e)
-  pub checkDegrees : (i : ℕ) → i < G .checks → (G .start i + 2 ≤ G .start (suc i)) × (G .start (suc i) ≤ G .start i + 64)
-  pub variableDegrees : (v : ℕ) → v < G .variables → (1 ≤ variableDegree G v) × (variableDegree G v ≤ 32)
+  pub checkDegrees : (i : ℕ) → i < G .checks → (G .start i + leastCheckDegree ≤ G .start (suc i)) × (G .start (suc i) ≤ G .start i + L .checkDegree)
+  pub variableDegrees : (v : ℕ) → v < G .variables → (leastVariableDegree ≤ variableDegree G v) × (variableDegree G v ≤ L .variableDegree)
+
+-- 'Admitted', by this document.
+abbrev pub Admitted : Graph → Type 0
+Admitted G = AdmittedWithin limits G
 
 -- What check nodes need of a graph: starts that make rows of at least two entries, from 0 to E. An admitted graph has them.
 pub record Rowed (G : Graph) : Type 0 where
