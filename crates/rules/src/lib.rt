@@ -4,13 +4,21 @@ ghost use Rattle.rules.specs.Refusals.{paper};
 
 // The limits of a graph: `limits` of specs/Graphs, and the least numbers beside it.
 pub const FEWEST_VARIABLES: usize = 2;
+
 pub const MOST_VARIABLES: usize = 8192;
+
 pub const FEWEST_CHECKS: usize = 1;
+
 pub const MOST_CHECKS: usize = 8192;
+
 pub const MOST_ENTRIES: usize = 32768;
+
 pub const LEAST_CHECK_DEGREE: usize = 2;
+
 pub const LARGEST_CHECK_DEGREE: usize = 64;
+
 pub const LEAST_VARIABLE_DEGREE: usize = 1;
+
 pub const LARGEST_VARIABLE_DEGREE: usize = 32;
 
 // Why a call turns its input down. A number is the refusal's place.
