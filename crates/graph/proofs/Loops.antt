@@ -11,14 +11,14 @@ use lib.Dec.{eqb, ltb}
 use lib.ListN.{length, getD, set, take, drop, length-set}
 use lib.Seq.{getD-set-same, getD-set-other, ext-getD}
 use Rattle.rules.specs.Ranges.{count, tabulate}
-use Rattle.rules.specs.Graphs.{Graph, variableDegree}
+use Rattle.rules.specs.Graphs.{Graph, Limits, leastCheckDegree, leastVariableDegree, variableDegree}
 use Rattle.rules.specs.declared.Judged.{Judged}
 use Rattle.rules.specs.declared.Judged.the-variants as Judgement
 use Rattle.rules.proofs.Ranges.{count-none, count-next, count-le, length-tabulate, getD-tabulate}
 use Rattle.graph.specs.Judging.{between, startFits, spanJudged}
 use Rattle.graph.specs.Calls.{partOf}
 use Rattle.graph.specs.Degrees.{tallied}
-use Rattle.graph.proofs.Parts.{startTest, rowJudged}
+use Rattle.graph.proofs.Parts.{startTest, rowJudged, checkTest, variableTest}
 
 -- ---- tests, from what was read
 
@@ -33,17 +33,18 @@ pub start-test : (G : Graph) (i m last s : ℕ) {t : Bool} → m ≡ G .checks �
 start-test G i m last s o p q r =
     sym (r ∙ ap (λ x. startFits i x (G .entries) last s) o ∙ ap₂ (startFits i (G .checks) (G .entries)) p q)
 
-pub degree-test : {a b x y : ℕ} {t : Bool} → x ≡ a → y ≡ b → t ≡ between 2 (y - x) 64 → between 2 (b - a) 64 ≡ t
-degree-test p q r = sym (r ∙ ap₂ (λ x y. between 2 (y - x) 64) p q)
+pub check-test : (L : Limits) (G : Graph) (i : ℕ) {x y : ℕ} {t : Bool} → x ≡ G .start i → y ≡ G .start (i + 1)
+    → t ≡ between leastCheckDegree (y - x) (L .checkDegree) → checkTest L G i ≡ t
+check-test L G i p q r = sym (r ∙ ap₂ (λ x y. between leastCheckDegree (y - x) (L .checkDegree)) p (q ∙ ap (G .start) (add-one i)))
 
 pub row-test : (G : Graph) (i a b : ℕ) {j : Judged} → a ≡ G .start i → b ≡ G .start (i + 1) → j ≡ spanJudged (G .column) a b
     → rowJudged G i ≡ j
 row-test G i a b p q r = sym (r ∙ ap₂ (spanJudged (G .column)) p (q ∙ ap (G .start) (add-one i)))
 
-pub variable-test : (G : Graph) (v : ℕ) {d : ℕ} {t : Bool} → d ≡ count (λ e. eqb (G .column e) v) 0 (G .entries) → t ≡ between 1 d 32
-    → between 1 (variableDegree G v) 32 ≡ t
+pub variable-test : (L : Limits) (G : Graph) (v : ℕ) {d : ℕ} {t : Bool} → d ≡ count (λ e. eqb (G .column e) v) 0 (G .entries)
+    → t ≡ between leastVariableDegree d (L .variableDegree) → variableTest L G v ≡ t
 unfolding variableDegree
-variable-test G v p r = sym (r ∙ ap (λ d. between 1 d 32) p)
+variable-test L G v p r = sym (r ∙ ap (λ d. between leastVariableDegree d (L .variableDegree)) p)
 
 pub degree-few : (G : Graph) (v : ℕ) {d : ℕ} → d ≡ count (λ e. eqb (G .column e) v) 0 (G .entries) → d ≤ G .entries
 degree-few G v p = omega (arith, count-le (λ e. eqb (G .column e) v) 0 (G .entries))

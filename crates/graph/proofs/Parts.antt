@@ -6,7 +6,7 @@ use native.Mathlib.Numerals.{add-one, unary-clauses}
 use native.Mathlib.Omega.{arith}
 use borrow.Author.Tests.{ltb-true, leb-true, eqb-true, lt-ltb, le-leb, eq-eqb}
 use lib.Dec.{eqb, leb, ltb}
-use Rattle.rules.specs.Graphs.{Graph, checkDegree, variableDegree}
+use Rattle.rules.specs.Graphs.{Graph, Limits, fewestVariables, fewestChecks, leastCheckDegree, leastVariableDegree, checkDegree, variableDegree}
 use Rattle.rules.specs.Refusals.{unless, orElse}
 use Rattle.rules.specs.declared.Judged.{Judged}
 use Rattle.rules.specs.declared.Judged.the-variants as Judgement
@@ -35,27 +35,28 @@ at-true i j t h = go (eqb i j) refl
 
 -- ---- the counts
 
-pub record Counts (G : Graph) : Type 0 where
-  pub variables : (2 ≤ G .variables) × (G .variables ≤ 8192)
-  pub checks : (1 ≤ G .checks) × (G .checks ≤ 8192)
-  pub entries : G .entries ≤ 32768
+pub record Counts (L : Limits) (G : Graph) : Type 0 where
+  pub variables : (fewestVariables ≤ G .variables) × (G .variables ≤ L .variables)
+  pub checks : (fewestChecks ≤ G .checks) × (G .checks ≤ L .checks)
+  pub entries : G .entries ≤ L .entries
 
-pub counts-told : (G : Graph) → countsJudged G ≡ Judgement.Admitted → Counts G
-unfolding countsJudged
-counts-told G h =
-    let n = unless (between 2 (G .variables) 8192) (Count 0) in
-    let m = unless (between 1 (G .checks) 8192) (Count 0) in
-    let E = unless (leb (G .entries) 32768) (Count 0) in
-    let rest = orElse-right n (orElse m E) h in
-    record {
-      variables = between-told 2 (G .variables) 8192 (unless-true (between 2 (G .variables) 8192) (Count 0) (orElse-left n (orElse m E) h));
-      checks = between-told 1 (G .checks) 8192 (unless-true (between 1 (G .checks) 8192) (Count 0) (orElse-left m E rest));
-      entries = leb-true (G .entries) 32768 (unless-true (leb (G .entries) 32768) (Count 0) (orElse-right m E rest));
-    }
+module _ {L : Limits} (G : Graph) where
+  pub counts-told : countsJudged L G ≡ Judgement.Admitted → Counts L G
+  unfolding countsJudged
+  counts-told h =
+      let n = between fewestVariables (G .variables) (L .variables) in
+      let m = between fewestChecks (G .checks) (L .checks) in
+      let E = leb (G .entries) (L .entries) in
+      let rest = orElse-right (unless n (Count 0)) (orElse (unless m (Count 0)) (unless E (Count 0))) h in
+      record {
+        variables = between-told fewestVariables (G .variables) (L .variables) (unless-true n (Count 0) (orElse-left (unless n (Count 0)) _ h));
+        checks = between-told fewestChecks (G .checks) (L .checks) (unless-true m (Count 0) (orElse-left (unless m (Count 0)) _ rest));
+        entries = leb-true (G .entries) (L .entries) (unless-true E (Count 0) (orElse-right (unless m (Count 0)) _ rest));
+      }
 
-pub counts-admitted : (G : Graph) → Counts G → countsJudged G ≡ Judgement.Admitted
-unfolding countsJudged
-counts-admitted G k = rw (between-true (k .variables), between-true (k .checks), le-leb (G .entries) 32768 (k .entries))
+  pub counts-admitted : Counts L G → countsJudged L G ≡ Judgement.Admitted
+  unfolding countsJudged
+  counts-admitted k = rw (between-true (k .variables), between-true (k .checks), le-leb (G .entries) (L .entries) (k .entries))
 
 -- ---- the starts
 
@@ -182,32 +183,42 @@ module _ (G : Graph) where
       each-all (rowJudged G) (G .checks)
       (λ i l. span-admitted (G .column) (G .start i) (G .start (suc i)) (λ e. h i e l))
 
-  -- ---- the degrees
+-- ---- the degrees
 
-  pub check-degrees-told : checkDegreesJudged G ≡ Judgement.Admitted
-      → (i : ℕ) → i < G .checks → (G .start i + 2 ≤ G .start (suc i)) × (G .start (suc i) ≤ G .start i + 64)
+-- the test of check i, and of variable v
+abbrev pub checkTest : Limits → Graph → ℕ → Bool
+checkTest L G i = between leastCheckDegree (checkDegree G i) (L .checkDegree)
+
+abbrev pub variableTest : Limits → Graph → ℕ → Bool
+variableTest L G v = between leastVariableDegree (variableDegree G v) (L .variableDegree)
+
+module _ (L : Limits) (G : Graph) where
+  pub check-degrees-told : checkDegreesJudged L G ≡ Judgement.Admitted
+      → (i : ℕ) → i < G .checks → (G .start i + leastCheckDegree ≤ G .start (suc i)) × (G .start (suc i) ≤ G .start i + L .checkDegree)
   unfolding checkDegreesJudged
   check-degrees-told h i l =
-      let d = between-told 2 (checkDegree G i) 64 (all-true (λ i. between 2 (checkDegree G i) 64) (λ i. Degree i) (G .checks) h i l) in
+      let d = between-told leastCheckDegree (checkDegree G i) (L .checkDegree) (all-true (checkTest L G) (λ i. Degree i) (G .checks) h i l) in
       (omega (arith, d .0), omega (arith, d .1))
 
-  pub check-degrees-admitted : ((i : ℕ) → i < G .checks → (G .start i + 2 ≤ G .start (suc i)) × (G .start (suc i) ≤ G .start i + 64))
-      → checkDegreesJudged G ≡ Judgement.Admitted
+  pub check-degrees-admitted : ((i : ℕ) → i < G .checks → (G .start i + leastCheckDegree ≤ G .start (suc i)) × (G .start (suc i) ≤ G .start i + L .checkDegree))
+      → checkDegreesJudged L G ≡ Judgement.Admitted
   unfolding checkDegreesJudged
   check-degrees-admitted h =
-      true-all (λ i. between 2 (checkDegree G i) 64) (λ i. Degree i) (G .checks)
-      (λ i l. between-true {low = 2} {x = checkDegree G i} {high = 64} (omega (arith, h i l .0), omega (arith, h i l .1)))
+      true-all (checkTest L G) (λ i. Degree i) (G .checks)
+      (λ i l.
+      between-true {low = leastCheckDegree} {x = checkDegree G i} {high = L .checkDegree}
+      (omega (arith, h i l .0), omega (arith, h i l .1)))
 
-  pub variable-degrees-told : variableDegreesJudged G ≡ Judgement.Admitted
-      → (v : ℕ) → v < G .variables → (1 ≤ variableDegree G v) × (variableDegree G v ≤ 32)
+  pub variable-degrees-told : variableDegreesJudged L G ≡ Judgement.Admitted
+      → (v : ℕ) → v < G .variables → (leastVariableDegree ≤ variableDegree G v) × (variableDegree G v ≤ L .variableDegree)
   unfolding variableDegreesJudged
   variable-degrees-told h v l =
-      between-told 1 (variableDegree G v) 32
-      (all-true (λ v. between 1 (variableDegree G v) 32) (λ v. Degree (G .checks + v)) (G .variables) h v l)
+      between-told leastVariableDegree (variableDegree G v) (L .variableDegree)
+      (all-true (variableTest L G) (λ v. Degree (G .checks + v)) (G .variables) h v l)
 
-  pub variable-degrees-admitted : ((v : ℕ) → v < G .variables → (1 ≤ variableDegree G v) × (variableDegree G v ≤ 32))
-      → variableDegreesJudged G ≡ Judgement.Admitted
+  pub variable-degrees-admitted : ((v : ℕ) → v < G .variables → (leastVariableDegree ≤ variableDegree G v) × (variableDegree G v ≤ L .variableDegree))
+      → variableDegreesJudged L G ≡ Judgement.Admitted
   unfolding variableDegreesJudged
   variable-degrees-admitted h =
-      true-all (λ v. between 1 (variableDegree G v) 32) (λ v. Degree (G .checks + v)) (G .variables)
+      true-all (variableTest L G) (λ v. Degree (G .checks + v)) (G .variables)
       (λ v l. between-true (h v l))

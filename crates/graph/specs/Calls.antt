@@ -5,7 +5,7 @@ use mathlib.Core.List.{List, []}
 use Prim.Native.Nat.{ℕ, _*_}
 use lib.Dec.{eqb, leb, ltb}
 use lib.ListN.{length, getD, take, drop}
-use Rattle.rules.specs.Graphs.{Graph, Admitted, checkDegree, unsatisfied}
+use Rattle.rules.specs.Graphs.{Graph, Limits, limits, AdmittedWithin, checkDegree, unsatisfied}
 use Rattle.rules.specs.Refusals.{unless, orElse, each}
 use Rattle.rules.specs.declared.Judged.{Judged}
 use Rattle.rules.specs.declared.Judged.the-variants as Judgement
@@ -15,13 +15,13 @@ use Rattle.graph.specs.Judging.{graphJudged}
 use Rattle.graph.specs.declared.OddChecks.{OddChecks}
 use Rattle.graph.specs.declared.OddChecks.the-variants as Answer
 
--- A graph is refused by none of the five exactly when it is admitted.
+-- Under any limits a graph is refused by none of the five exactly when it is admitted.
 abbrev pub JudgedRightly : Type 0
-JudgedRightly = (G : Graph) → (graphJudged G ≡ Judgement.Admitted) ↔ Admitted G
+JudgedRightly = (L : Limits) (G : Graph) → (graphJudged L G ≡ Judgement.Admitted) ↔ AdmittedWithin L G
 
 -- 'Row of a check: the graph's five; 3, a check number not below m (that number).'
 unfoldable pub rowJudgement : Graph → ℕ → Judged
-rowJudgement G i = orElse (graphJudged G) (unless (ltb i (G .checks)) (Range i))
+rowJudgement G i = orElse (graphJudged limits G) (unless (ltb i (G .checks)) (Range i))
 
 -- 'The columns of one check are handed back as that part of the caller's list; where the graph or the check number is refused the
 -- part is empty.' A column is two bytes.
@@ -36,7 +36,7 @@ bytesJudged bits = each (λ v. unless (leb (getD bits v 0) 1) (Bit v)) (length b
 -- 'The graph's five; 13, other than n bits; 15, a byte not 0 or 1 (first index).'
 unfoldable pub bitsJudged : Graph → List ℕ → Judged
 bitsJudged G bits =
-    orElse (graphJudged G)
+    orElse (graphJudged limits G)
     (orElse (unless (eqb (length bits) (G .variables)) (Length 0)) (bytesJudged bits))
 
 -- The count, or the refusal.

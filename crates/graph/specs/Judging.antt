@@ -2,7 +2,7 @@
 use mathlib.Core.Bool.{Bool, not, _&&_, _||_}
 use Prim.Native.Nat.{ℕ, suc, _+_, _-_}
 use lib.Dec.{eqb, leb, ltb}
-use Rattle.rules.specs.Graphs.{Graph, checkDegree, variableDegree}
+use Rattle.rules.specs.Graphs.{Graph, Limits, fewestVariables, fewestChecks, leastCheckDegree, leastVariableDegree, checkDegree, variableDegree}
 use Rattle.rules.specs.Refusals.{unless, orElse, each}
 use Rattle.rules.specs.declared.Judged.{Judged}
 use Rattle.rules.specs.declared.Refusal.the-variants.{Count, Range, Order, Degree, Start}
@@ -18,13 +18,13 @@ startFits i m E last s = (not (eqb i 0) || eqb s 0) && (leb last s && (not (eqb 
 unfoldable pub spanJudged : (ℕ → ℕ) → ℕ → ℕ → Judged
 spanJudged column a b = each (λ k. unless (ltb (column (a + k)) (column (a + k + 1))) (Order (a + k + 1))) (b - a - 1)
 
-module _ (G : Graph) where
-  -- '2, a count outside its limits (n, then m, then E).'
-  unfoldable pub countsJudged : Judged
-  countsJudged =
-      orElse (unless (between 2 (G .variables) 8192) (Count 0))
-      (orElse (unless (between 1 (G .checks) 8192) (Count 0)) (unless (leb (G .entries) 32768) (Count 0)))
+-- '2, a count outside its limits (n, then m, then E).'
+unfoldable pub countsJudged : Limits → Graph → Judged
+countsJudged L G =
+    orElse (unless (between fewestVariables (G .variables) (L .variables)) (Count 0))
+    (orElse (unless (between fewestChecks (G .checks) (L .checks)) (Count 0)) (unless (leb (G .entries) (L .entries)) (Count 0)))
 
+module _ (G : Graph) where
   -- '7, starts not beginning at 0, one below the start before it, or not ending at E (first such index, the ends being 0 and m).'
   unfoldable pub startsJudged : Judged
   startsJudged =
@@ -38,14 +38,16 @@ module _ (G : Graph) where
   unfoldable pub rowsJudged : Judged
   rowsJudged = each (λ i. spanJudged (G .column) (G .start i) (G .start (suc i))) (G .checks)
 
+module _ (L : Limits) (G : Graph) where
   -- '5, a degree outside its limits (lowest check, else m + lowest variable).'
   unfoldable pub checkDegreesJudged : Judged
-  checkDegreesJudged = each (λ i. unless (between 2 (checkDegree G i) 64) (Degree i)) (G .checks)
+  checkDegreesJudged = each (λ i. unless (between leastCheckDegree (checkDegree G i) (L .checkDegree)) (Degree i)) (G .checks)
 
   unfoldable pub variableDegreesJudged : Judged
-  variableDegreesJudged = each (λ v. unless (between 1 (variableDegree G v) 32) (Degree (G .checks + v))) (G .variables)
+  variableDegreesJudged = each (λ v. unless (between leastVariableDegree (variableDegree G v) (L .variableDegree)) (Degree (G .checks + v))) (G .variables)
 
   -- 'Check a graph': 2, 7, 3, 4, 5.
   unfoldable pub graphJudged : Judged
   graphJudged =
-      orElse countsJudged (orElse startsJudged (orElse columnsJudged (orElse rowsJudged (orElse checkDegreesJudged variableDegreesJudged))))
+      orElse (countsJudged L G)
+      (orElse (startsJudged G) (orElse (columnsJudged G) (orElse (rowsJudged G) (orElse checkDegreesJudged variableDegreesJudged))))

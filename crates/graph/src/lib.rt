@@ -2,6 +2,7 @@
 ghost use mathlib.Core.Path.{_≡_};
 ghost use Prim.Native.Nat.{_+_, _-_, _/_, _≤_, min};
 ghost use lib.ListN.{length};
+ghost use Rattle.rules.specs.Graphs.{limits};
 ghost use Rattle.rules.specs.declared.Judged.the-variants as Judgement;
 ghost use Rattle.words.specs.Roles.{columnAt, graphOf};
 ghost use Rattle.graph.specs.Judging.{between, countsJudged, startFits, startsJudged, columnsJudged, spanJudged, rowsJudged, checkDegreesJudged, variableDegreesJudged, graphJudged};
@@ -28,15 +29,15 @@ fn checks(starts: &[u8]) -> usize
 
 // 2: the counts.
 fn check_counts(n: usize, starts: &[u8], columns: &[u8]) -> Judged
-    ensures { λ r. ⌜ r ≡ countsJudged (graphOf n (now (starts .entry)) (now (columns .entry))) ⌝ }
+    ensures { λ r. ⌜ r ≡ countsJudged limits (graphOf n (now (starts .entry)) (now (columns .entry))) ⌝ }
 {
-    if !in_range(2, n, 8192) {
+    if !in_range(rules::FEWEST_VARIABLES, n, rules::MOST_VARIABLES) {
         return Judged::Refused(Refusal::Count(0));
     }
-    if !in_range(1, checks(starts), 8192) {
+    if !in_range(rules::FEWEST_CHECKS, checks(starts), rules::MOST_CHECKS) {
         return Judged::Refused(Refusal::Count(0));
     }
-    if 32768 < columns.len() / 2 {
+    if rules::MOST_ENTRIES < columns.len() / 2 {
         return Judged::Refused(Refusal::Count(0));
     }
     Judged::Admitted
@@ -51,7 +52,7 @@ fn start_good(i: usize, m: usize, count: usize, last: usize, s: usize) -> bool
 
 // 7: the starts.
 fn check_starts(n: usize, starts: &[u8], columns: &[u8]) -> Judged
-    requires { ⌜ countsJudged (graphOf n (now starts) (now columns)) ≡ Judgement.Admitted ⌝ }
+    requires { ⌜ countsJudged limits (graphOf n (now starts) (now columns)) ≡ Judgement.Admitted ⌝ }
     ensures { λ r. ⌜ r ≡ startsJudged (graphOf n (now (starts .entry)) (now (columns .entry))) ⌝ }
 {
     let m = checks(starts);
@@ -123,12 +124,16 @@ fn check_rows(n: usize, starts: &[u8], columns: &[u8]) -> Judged
 // 5: the degrees of the checks.
 fn check_degrees(n: usize, starts: &[u8], columns: &[u8]) -> Judged
     requires { ⌜ startsJudged (graphOf n (now starts) (now columns)) ≡ Judgement.Admitted ⌝ }
-    ensures { λ r. ⌜ r ≡ checkDegreesJudged (graphOf n (now (starts .entry)) (now (columns .entry))) ⌝ }
+    ensures { λ r. ⌜ r ≡ checkDegreesJudged limits (graphOf n (now (starts .entry)) (now (columns .entry))) ⌝ }
 {
     let m = checks(starts);
     let mut i = 0;
     while i < m {
-        if !in_range(2, words::start(starts, i + 1) - words::start(starts, i), 64) {
+        if !in_range(
+            rules::LEAST_CHECK_DEGREE,
+            words::start(starts, i + 1) - words::start(starts, i),
+            rules::LARGEST_CHECK_DEGREE,
+        ) {
             return Judged::Refused(Refusal::Degree(i));
         }
         i += 1;
@@ -160,16 +165,20 @@ pub fn count_degrees(columns: &[u8], degrees: &mut [u16])
 
 // 5: the degrees of the variables.
 fn variable_degrees(n: usize, starts: &[u8], columns: &[u8]) -> Judged
-    requires { ⌜ countsJudged (graphOf n (now starts) (now columns)) ≡ Judgement.Admitted ⌝ }
+    requires { ⌜ countsJudged limits (graphOf n (now starts) (now columns)) ≡ Judgement.Admitted ⌝ }
     requires { ⌜ columnsJudged (graphOf n (now starts) (now columns)) ≡ Judgement.Admitted ⌝ }
-    ensures { λ r. ⌜ r ≡ variableDegreesJudged (graphOf n (now (starts .entry)) (now (columns .entry))) ⌝ }
+    ensures { λ r. ⌜ r ≡ variableDegreesJudged limits (graphOf n (now (starts .entry)) (now (columns .entry))) ⌝ }
 {
     let m = checks(starts);
-    let mut degrees = [0u16; 8192];
+    let mut degrees = [0u16; rules::MOST_VARIABLES];
     count_degrees(columns, &mut degrees);
     let mut v = 0;
     while v < n {
-        if !in_range(1, degrees[v] as usize, 32) {
+        if !in_range(
+            rules::LEAST_VARIABLE_DEGREE,
+            degrees[v] as usize,
+            rules::LARGEST_VARIABLE_DEGREE,
+        ) {
             return Judged::Refused(Refusal::Degree(m + v));
         }
         v += 1;
@@ -179,7 +188,7 @@ fn variable_degrees(n: usize, starts: &[u8], columns: &[u8]) -> Judged
 
 // Whether a graph is admitted.
 pub fn check(n: usize, starts: &[u8], columns: &[u8]) -> Judged
-    ensures { λ r. ⌜ r ≡ graphJudged (graphOf n (now (starts .entry)) (now (columns .entry))) ⌝ }
+    ensures { λ r. ⌜ r ≡ graphJudged limits (graphOf n (now (starts .entry)) (now (columns .entry))) ⌝ }
 {
     let j = check_counts(n, starts, columns);
     if let Judged::Refused(r) = j {

@@ -1,6 +1,6 @@
 use mathlib.Core.Path.{_≡_, sym, _∙_}
 use borrow.Author.Needs.{needs}
-use Rattle.rules.specs.Graphs.{Graph}
+use Rattle.rules.specs.Graphs.{Graph, limits}
 use Rattle.rules.specs.declared.Judged.the-variants as Judgement
 use Rattle.graph.specs.Judging.{countsJudged, startsJudged, columnsJudged, rowsJudged, checkDegreesJudged, graphJudged}
 use Rattle.words.specs.Roles.{graphOf}
@@ -12,7 +12,7 @@ abbrev G : tie.Start → Graph
 G s = graphOf (s .args .n) (s .args .starts .now) (s .args .columns .now)
 
 -- what is admitted, at the place where it is known
-counts : (c : tie.After-enum-told) → countsJudged (G (c .before .before .before .before .before)) ≡ Judgement.Admitted
+counts : (c : tie.After-enum-told) → countsJudged limits (G (c .before .before .before .before .before)) ≡ Judgement.Admitted
 counts c = sym (c .before .before .check-counts .ensures) ∙ c .enum-told .given .1
 
 starts : (c : tie.After-enum-told2) → startsJudged (G (c .before .before .before .before .before .before .before .before)) ≡ Judgement.Admitted
@@ -27,7 +27,7 @@ rows : (c : tie.After-enum-told4)
 rows c = sym (c .before .before .check-rows .ensures) ∙ c .enum-told4 .given .1
 
 degrees : (c : tie.After-enum-told5)
-    → checkDegreesJudged (G (c .before .before .before .before .before .before .before .before .before .before .before .before .before .before .before .before .before)) ≡ Judgement.Admitted
+    → checkDegreesJudged limits (G (c .before .before .before .before .before .before .before .before .before .before .before .before .before .before .before .before .before)) ≡ Judgement.Admitted
 degrees c = sym (c .before .before .check-degrees .ensures) ∙ c .enum-told5 .given .1
 
 check-counts-requires : tie.Need-check-counts-requires

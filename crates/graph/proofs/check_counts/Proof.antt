@@ -2,7 +2,7 @@ use mathlib.Core.Path.{_≡_, sym, _∙_}
 use mathlib.Core.Bool.{true}
 use borrow.Author.Needs.{needs}
 use borrow.Author.Tests.{le-leb, lt-leb, not-true, not-false}
-use Rattle.rules.specs.Graphs.{Graph}
+use Rattle.rules.specs.Graphs.{Graph, limits, fewestVariables, fewestChecks}
 use Rattle.graph.specs.Judging.{between, countsJudged}
 use Rattle.words.specs.Roles.{graphOf}
 use Rattle.graph.proofs.check_counts.Statement.{statement}
@@ -13,11 +13,11 @@ abbrev G : tie.Start → Graph
 G s = graphOf (s .args .n) (s .args .starts .now) (s .args .columns .now)
 
 -- n is within its limits
-variables : (c : tie.Else1) → between 2 (G (c .before .before .before .before) .variables) 8192 ≡ true
+variables : (c : tie.Else1) → between fewestVariables (G (c .before .before .before .before) .variables) (limits .variables) ≡ true
 variables c = sym (c .before .in-range .ensures) ∙ not-false _ (c .if1 .left)
 
 -- m is tested
-tested : (c : tie.After-in-range2) → between 1 (G (c .before .before .before .before .before .before) .checks) 8192 ≡ c .in-range2 .result
+tested : (c : tie.After-in-range2) → between fewestChecks (G (c .before .before .before .before .before .before) .checks) (limits .checks) ≡ c .in-range2 .result
 tested c = rw (← c .before .checks .ensures) (sym (c .in-range2 .ensures))
 
 in-range-requires : tie.Need-in-range-requires

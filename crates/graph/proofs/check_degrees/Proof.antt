@@ -1,21 +1,21 @@
 use mathlib.Core.Path.{_≡_, sym, _∙_}
-use Prim.Native.Nat.{suc, _-_, _≤_}
+use Prim.Native.Nat.{_-_, _≤_}
 use native.Mathlib.Omega.{arith}
 use native.Mathlib.Numerals.{add-one}
 use borrow.Author.Needs.{needs}
 use borrow.Author.Tests.{not-true, not-false}
-use Rattle.rules.specs.Graphs.{Graph, checkDegree}
+use Rattle.rules.specs.Graphs.{Graph, limits}
 use Rattle.rules.specs.declared.Refusal.the-variants.{Degree}
 use Rattle.rules.proofs.Judging.{Passed, passed-none, passed-more, passed-all, failed-at}
-use Rattle.words.specs.Roles.{startAt, graphOf}
-use Rattle.graph.specs.Judging.{between, checkDegreesJudged}
-use Rattle.graph.proofs.Parts.{starts-told}
-use Rattle.graph.proofs.Loops.{degree-test}
+use Rattle.words.specs.Roles.{graphOf}
+use Rattle.graph.specs.Judging.{checkDegreesJudged}
+use Rattle.graph.proofs.Parts.{starts-told, checkTest}
+use Rattle.graph.proofs.Loops.{check-test}
 use Rattle.graph.proofs.check_degrees.Statement.{statement}
 use Rattle.graph.proofs.check_degrees.Tie as tie
 
 abbrev Inv-loop : tie.InvT-loop
-Inv-loop n starts columns m i₀ i = (i ≤ m) × Passed (λ k. between 2 (startAt starts (suc k) - startAt starts k) 64) (λ k. Degree k) i
+Inv-loop n starts columns m i₀ i = (i ≤ m) × Passed (checkTest limits (graphOf n starts columns)) (λ k. Degree k) i
 
 abbrev μ-loop : tie.MeasureT-loop
 μ-loop n starts columns m i₀ i = m - i
@@ -26,8 +26,10 @@ G s = graphOf (s .args .n) (s .args .starts .now) (s .args .columns .now)
 
 -- what the call of in_range tells of check i
 test : (c : tie.After-in-range Inv-loop μ-loop)
-    → between 2 (checkDegree (G (c .before .before .before .before .before .before .before .before)) (c .before .before .before .before .loop .i)) 64 ≡ c .in-range .result
-test c = degree-test (c .before .start2 .ensures .0) (rw add-one at (c .before .before .start .ensures .0)) (c .in-range .ensures)
+    → checkTest limits (G (c .before .before .before .before .before .before .before .before)) (c .before .before .before .before .loop .i) ≡ c .in-range .result
+test c =
+    check-test limits (G (c .before .before .before .before .before .before .before .before)) (c .before .before .before .before .loop .i)
+    (c .before .start2 .ensures .0) (c .before .before .start .ensures .0) (c .in-range .ensures)
 
 checks-requires : tie.Need-checks-requires Inv-loop μ-loop
 checks-requires c κs = search needs

@@ -6,20 +6,20 @@ use borrow.Author.Tests.{not-true, not-false}
 use lib.Dec.{eqb}
 use lib.ListN.{length, getD, getD-replicate}
 use Rattle.rules.specs.Ranges.{count}
-use Rattle.rules.specs.Graphs.{Graph, variableDegree}
+use Rattle.rules.specs.Graphs.{Graph, limits}
 use Rattle.rules.specs.declared.Refusal.the-variants.{Degree}
 use Rattle.rules.specs.declared.Judged.the-variants as Judgement
 use Rattle.rules.proofs.Judging.{Passed, passed-none, passed-more, passed-all, failed-at}
-use Rattle.graph.specs.Judging.{between, variableDegreesJudged}
+use Rattle.graph.specs.Judging.{variableDegreesJudged}
 use Rattle.words.specs.Roles.{columnAt, graphOf}
-use Rattle.graph.proofs.Parts.{counts-told}
+use Rattle.graph.proofs.Parts.{counts-told, variableTest}
 use Rattle.graph.proofs.Loops.{variable-test, degree-few, tallied-degree}
 use Rattle.graph.proofs.variable_degrees.Statement.{statement}
 use Rattle.graph.proofs.variable_degrees.Tie as tie
 
 abbrev Inv-loop : tie.InvT-loop
 Inv-loop n starts columns m degrees v₀ v =
-    (v ≤ n) × Passed (λ w. between 1 (variableDegree (graphOf n starts columns) w) 32) (λ w. Degree (length starts / 2 - 1 + w)) v
+    (v ≤ n) × Passed (variableTest limits (graphOf n starts columns)) (λ w. Degree (length starts / 2 - 1 + w)) v
 
 abbrev μ-loop : tie.MeasureT-loop
 μ-loop n starts columns m degrees v₀ v = n - v
@@ -28,8 +28,8 @@ abbrev μ-loop : tie.MeasureT-loop
 abbrev G : tie.Start Inv-loop μ-loop → Graph
 G s = graphOf (s .args .n) (s .args .starts .now) (s .args .columns .now)
 
--- v is a place of the array, since n is at most 8,192
-small : (c : tie.In-loop Inv-loop μ-loop) → c .before .loop .v < 8192
+-- v is a place of the array
+small : (c : tie.In-loop Inv-loop μ-loop) → c .before .loop .v < limits .variables
 small c = omega (arith, counts-told _ (c .before .before .before .before .before .before .before .before .pre .0) .variables .1)
 
 -- place v of the array holds the degree of variable v
@@ -37,12 +37,12 @@ degree : (c : tie.In-loop Inv-loop μ-loop)
     → getD (c .before .before .before .count-degrees .last .1 .0) (c .before .loop .v) 0 ≡ count (λ e. eqb (columnAt (c .before .before .before .before .before .before .before .before .args .columns .now) e) (c .before .loop .v)) 0 (length (c .before .before .before .before .before .before .before .before .args .columns .now) / 2)
 degree c =
     ap (λ l. getD l (c .before .loop .v) 0) (c .before .before .before .count-degrees .ensures)
-    ∙ tallied-degree _ _ _ (c .before .loop .v) (omega (arith, counts-told _ (c .before .before .before .before .before .before .before .before .pre .0) .entries)) (small c) (getD-replicate 8192 (c .before .loop .v) 0 0 (small c))
+    ∙ tallied-degree _ _ _ (c .before .loop .v) (omega (arith, counts-told _ (c .before .before .before .before .before .before .before .before .pre .0) .entries)) (small c) (getD-replicate (limits .variables) (c .before .loop .v) 0 0 (small c))
 
 -- what the call of in_range tells of variable v
 test : (c : tie.After-in-range Inv-loop μ-loop)
-    → between 1 (variableDegree (G (c .before .before .before .before .before .before .before .before .before)) (c .before .before .loop .v)) 32 ≡ c .in-range .result
-test c = variable-test (G (c .before .before .before .before .before .before .before .before .before)) (c .before .before .loop .v) (degree (c .before)) (c .in-range .ensures)
+    → variableTest limits (G (c .before .before .before .before .before .before .before .before .before)) (c .before .before .loop .v) ≡ c .in-range .result
+test c = variable-test limits (G (c .before .before .before .before .before .before .before .before .before)) (c .before .before .loop .v) (degree (c .before)) (c .in-range .ensures)
 
 checks-requires : tie.Need-checks-requires Inv-loop μ-loop
 checks-requires c κs = search needs
