@@ -4,18 +4,17 @@ use mathlib.Core.List.{List, _++_}
 use Prim.Native.Nat.{ℕ, zero, suc, _+_, _-_, _≤_, _<_}
 use native.Mathlib.Decide.{decLt}
 use native.Mathlib.Omega.{arith}
-use borrow.Author.Tests.{le-leb}
 use lib.ListN.{length, getD, length-append, List·getD-append}
 use lib.Seq.{getD-append-add, ext-getD}
 use Rattle.rules.specs.Ranges.{joined, tabulate}
-use Rattle.rules.specs.Graphs.{Graph, Admitted, Rowed, checkDegree, checkOf}
+use Rattle.rules.specs.Graphs.{Graph, Limits, AdmittedWithin, Rowed, checkDegree, checkOf}
 use Rattle.rules.proofs.Ranges.{length-tabulate, getD-tabulate}
 use Rattle.rules.proofs.Rows.{rowed, starts-rise, row-within, row-is}
 use Rattle.lines.specs.Lines.{Pair, pair}
 use Rattle.sheet_text.specs.Texts.{rowEntries, entriesOf}
 use Rattle.sheet_text.specs.Reading.{after, startIn, columnIn, graphIn}
 use Rattle.sheet_text.proofs.Order.{Fits, Rising}
-use Rattle.sheet_text.proofs.Sheets.{Lined}
+use Rattle.sheet_text.proofs.Sheets.{Lined, counts-fit}
 use Rattle.sheet_text.proofs.Entries.{checkIn, start-is, check-within, rising-at, entry-row}
 
 abbrev nowhere : Pair
@@ -93,9 +92,9 @@ module _ (G : Graph) (ok : Rowed G) where
       above e l b (no u) = omega arith
 
 -- an admitted graph's entries are those of a sheet
-pub entries-lined : (G : Graph) → Admitted G → Lined (pair (G .variables) (G .checks)) (entriesOf G)
-entries-lined G a = record {
-  counts = rw (le-leb 2 (G .variables) (a .variables .0), le-leb (G .variables) 8192 (a .variables .1), le-leb 1 (G .checks) (a .checks .0), le-leb (G .checks) 8192 (a .checks .1));
+pub entries-lined : {L : Limits} (G : Graph) → AdmittedWithin L G → Lined L (pair (G .variables) (G .checks)) (entriesOf G)
+entries-lined {L} G a = record {
+  counts = counts-fit L c (a .variables) (a .checks);
   rising = rising-at (pair (G .variables) (G .checks)) nowhere (entriesOf G) (λ h. first (omega (arith, long))) (λ e h. next e (omega (arith, long)));
   few = omega (arith, long, a .entries);
 }

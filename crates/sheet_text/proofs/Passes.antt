@@ -6,19 +6,19 @@ use Prim.Native.Nat.{ℕ, zero, suc, _+_, _≤_, _<_, min}
 use native.Mathlib.Decide.{decLt}
 use native.Mathlib.Nat.{not-suc-le-zero}
 use native.Mathlib.Omega.{arith}
-use borrow.Author.Tests.{le-ltb, lt-leb, leb-true}
+use borrow.Author.Tests.{le-ltb, lt-leb}
 use lib.Dec.{leb, ltb}
 use lib.ListN.{length, drop, length-append, drop-of-length-le}
+use Rattle.rules.specs.Graphs.{Limits, fewestVariables, fewestChecks}
 use Rattle.rules.specs.declared.Refusal.{Refusal}
 use Rattle.rules.specs.declared.Refusal.the-variants.{Form, Count}
 use Rattle.rules.specs.declared.Judged.the-variants as Judgement
-use Rattle.rules.proofs.Judging.{and-left, and-right}
 use Rattle.lines.specs.Numbers.{other, value}
 use Rattle.lines.specs.Lines.{Pair, pair, line, fixed}
 use Rattle.lines.specs.Places.{cap}
 use Rattle.lines.proofs.Places.{here}
 use Rattle.sheet_text.specs.Texts.{heading, titles}
-use Rattle.sheet_text.specs.Reading.{Lines, refused, lines, atEnd, countsFit, limit, after, entryJudged, rows, sheetLines}
+use Rattle.sheet_text.specs.Reading.{Lines, refused, lines, atEnd, countsFit, after, entryJudged, rows, sheetLines}
 use Rattle.sheet_text.proofs.Order.{judged-fits}
 
 -- ---- numbers kept up to the cap
@@ -38,46 +38,45 @@ capped-entry c low l p a b hn hm ea eb = go (decLt (p .first) cap) (decLt (p .se
     go (yes x) (no y) =
         rw (le-ltb b (c .first) (omega arith), le-ltb (p .second) (c .first) (omega arith), and-no (ltb a (c .second)), and-no (ltb (p .first) (c .second)))
 
-pub capped-counts : (p : Pair) (a b : ℕ) → a ≡ min (p .first) cap → b ≡ min (p .second) cap → countsFit (pair a b) ≡ countsFit p
-capped-counts p a b ea eb = go (decLt (p .first) cap) (decLt (p .second) cap)
+pub capped-counts : (L : Limits) → L .variables < cap → L .checks < cap → (p : Pair) (a b : ℕ) → a ≡ min (p .first) cap → b ≡ min (p .second) cap
+    → countsFit L (pair a b) ≡ countsFit L p
+capped-counts L hn hm p a b ea eb = go (decLt (p .first) cap) (decLt (p .second) cap)
   where
-    go : Dec (p .first < cap) → Dec (p .second < cap) → countsFit (pair a b) ≡ countsFit p
+    go : Dec (p .first < cap) → Dec (p .second < cap) → countsFit L (pair a b) ≡ countsFit L p
     go (yes x) (yes y) =
         let i : a ≡ p .first = omega arith in
         let j : b ≡ p .second = omega arith in
-        ap₂ (λ (i j : ℕ). countsFit (pair i j)) i j
-    go (no x) y = rw (lt-leb a 8192 (omega arith), lt-leb (p .first) 8192 (omega arith), and-no (leb 2 a), and-no (leb 2 (p .first)))
+        ap₂ (λ (i j : ℕ). countsFit L (pair i j)) i j
+    go (no x) y =
+        rw (
+          lt-leb a (L .variables) (omega arith),
+          lt-leb (p .first) (L .variables) (omega arith),
+          and-no (leb fewestVariables a),
+          and-no (leb fewestVariables (p .first)),
+        )
     go (yes x) (no y) =
         rw (
-          lt-leb b 8192 (omega arith),
-          lt-leb (p .second) 8192 (omega arith),
-          and-no (leb 1 b),
-          and-no (leb 1 (p .second)),
-          and-no (leb 2 a && leb a 8192),
-          and-no (leb 2 (p .first) && leb (p .first) 8192),
+          lt-leb b (L .checks) (omega arith),
+          lt-leb (p .second) (L .checks) (omega arith),
+          and-no (leb fewestChecks b),
+          and-no (leb fewestChecks (p .second)),
+          and-no (leb fewestVariables a && leb a (L .variables)),
+          and-no (leb fewestVariables (p .first) && leb (p .first) (L .variables)),
         )
-
-pub counts-limits : (p : Pair) → countsFit p ≡ true → (p .first ≤ 8192) × (p .second ≤ 8192)
-counts-limits p h =
-    let n = leb 2 (p .first) && leb (p .first) 8192 in
-    let m = leb 1 (p .second) && leb (p .second) 8192 in (
-      leb-true (p .first) 8192 (and-right (leb 2 (p .first)) (leb (p .first) 8192) (and-left n m h)),
-      leb-true (p .second) 8192 (and-right (leb 1 (p .second)) (leb (p .second) 8192) (and-right n m h)),
-    )
 
 -- ---- the loop over the entries' lines
 
--- at `at`, after k entries, the next not before `low`
-pub record Scanning (c : Pair) (s : List ℕ) (from at k : ℕ) (low : Pair) : Type 0 where
+-- at `at`, after k of at most `most` entries, the next not before `low`
+pub record Scanning (most : ℕ) (c : Pair) (s : List ℕ) (from at k : ℕ) (low : Pair) : Type 0 where
   pub left : ℕ
   pub done : List Pair
   pub within : at ≤ length s
-  pub total : left + k ≡ limit
+  pub total : left + k ≡ most
   pub got : length done ≡ k
-  pub same : rows c limit 4 (pair 0 0) [] (drop from s) ≡ rows c left (k + 4) low done (drop at s)
+  pub same : rows c most 4 (pair 0 0) [] (drop from s) ≡ rows c left (k + 4) low done (drop at s)
 
-pub scanning-none : (c : Pair) (s : List ℕ) (from : ℕ) → from ≤ length s → Scanning c s from from 0 (pair 0 0)
-scanning-none c s from h = record { left = limit; done = []; within = h; total = refl; got = refl; same = refl }
+pub scanning-none : (most : ℕ) (c : Pair) (s : List ℕ) (from : ℕ) → from ≤ length s → Scanning most c s from from 0 (pair 0 0)
+scanning-none most c s from h = record { left = most; done = []; within = h; total = omega arith; got = refl; same = refl }
 
 -- the text goes on at a place
 full : (s : List ℕ) (i : ℕ) (x y : Lines) → i < length s → atEnd (drop i s) x y ≡ y
@@ -111,18 +110,18 @@ module _ (c : Pair) (l : ℕ) (low : Pair) (done : List Pair) where
       unfolding rows
       good-entry j q = full s at _ _ h ∙ rw (e, q)
 
-module _ {c : Pair} {s : List ℕ} {from at k : ℕ} {low : Pair} (q : Scanning c s from at k low) where
+module _ {most : ℕ} {c : Pair} {s : List ℕ} {from at k : ℕ} {low : Pair} (q : Scanning most c s from at k low) where
   abbrev answer : Lines
-  answer = rows c limit 4 (pair 0 0) [] (drop from s)
+  answer = rows c most 4 (pair 0 0) [] (drop from s)
 
   pub scanning-end : length s ≤ at → answer ≡ lines c (q .done)
   scanning-end h = q .same ∙ ap (rows c (q .left) (k + 4) low (q .done)) (drop-of-length-le s h) ∙ none-left c (k + 4) low (q .done) (q .left)
 
   module _ (h : at < length s) where
-    pub scanning-many : limit ≤ k → answer ≡ refused (Count (k + 4))
+    pub scanning-many : most ≤ k → answer ≡ refused (Count (k + 4))
     scanning-many u = q .same ∙ too-many c (k + 4) low (q .done) s at h (q .left) (omega (arith, q .total))
 
-    module _ (u : k < limit) where
+    module _ (u : k < most) where
       pub scanning-other : line (drop at s) ≡ other → answer ≡ refused (Form (k + 4))
       scanning-other e = q .same ∙ no-line c (k + 4) low (q .done) s at h (q .left) (omega (arith, q .total)) e
 
@@ -130,10 +129,10 @@ module _ {c : Pair} {s : List ℕ} {from at k : ℕ} {low : Pair} (q : Scanning 
         pub scanning-refused : {r : Refusal} → entryJudged c (k + 4) low p ≡ Judgement.Refused r → answer ≡ refused r
         scanning-refused {r} j = q .same ∙ bad-entry c (k + 4) low (q .done) s at h p (drop next s) e (q .left) r (omega (arith, q .total)) j
 
-        pub scanning-more : next ≤ length s → entryJudged c (k + 4) low p ≡ Judgement.Admitted → Scanning c s from next (k + 1) (after p)
+        pub scanning-more : next ≤ length s → entryJudged c (k + 4) low p ≡ Judgement.Admitted → Scanning most c s from next (k + 1) (after p)
         scanning-more w j = go (q .left) (q .total) (q .same)
           where
-            go : (left : ℕ) → left + k ≡ limit → answer ≡ rows c left (k + 4) low (q .done) (drop at s) → Scanning c s from next (k + 1) (after p)
+            go : (left : ℕ) → left + k ≡ most → answer ≡ rows c left (k + 4) low (q .done) (drop at s) → Scanning most c s from next (k + 1) (after p)
             go zero t a = absurd (omega arith)
             go (suc left) t a = record {
               left = left;
@@ -155,26 +154,26 @@ after-capped c low l p a b hn hm ea eb j =
 
 -- ---- the lines above the entries
 
-module _ (s : List ℕ) where
-  pub no-heading : fixed heading s ≡ other → sheetLines s ≡ refused (Form 1)
+module _ (L : Limits) (s : List ℕ) where
+  pub no-heading : fixed heading s ≡ other → sheetLines L s ≡ refused (Form 1)
   unfolding sheetLines
   no-heading e = rw e
 
   module _ {t₁ : List ℕ} (e₁ : fixed heading s ≡ value tt t₁) where
-    pub no-counts : line t₁ ≡ other → sheetLines s ≡ refused (Form 2)
+    pub no-counts : line t₁ ≡ other → sheetLines L s ≡ refused (Form 2)
     unfolding sheetLines
     no-counts e = rw (e₁, e)
 
     module _ {c : Pair} {t₂ : List ℕ} (e₂ : line t₁ ≡ value c t₂) where
-      pub bad-counts : countsFit c ≡ false → sheetLines s ≡ refused (Count 2)
+      pub bad-counts : countsFit L c ≡ false → sheetLines L s ≡ refused (Count 2)
       unfolding sheetLines
       bad-counts e = rw (e₁, e₂, e)
 
-      module _ (fit : countsFit c ≡ true) where
-        pub no-titles : fixed titles t₂ ≡ other → sheetLines s ≡ refused (Form 3)
+      module _ (fit : countsFit L c ≡ true) where
+        pub no-titles : fixed titles t₂ ≡ other → sheetLines L s ≡ refused (Form 3)
         unfolding sheetLines
         no-titles e = rw (e₁, e₂, fit, e)
 
-        pub to-entries : {t₃ : List ℕ} → fixed titles t₂ ≡ value tt t₃ → sheetLines s ≡ rows c limit 4 (pair 0 0) [] t₃
+        pub to-entries : {t₃ : List ℕ} → fixed titles t₂ ≡ value tt t₃ → sheetLines L s ≡ rows c (L .entries) 4 (pair 0 0) [] t₃
         unfolding sheetLines
         to-entries e = rw (e₁, e₂, fit, e)

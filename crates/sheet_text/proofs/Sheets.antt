@@ -1,22 +1,25 @@
 -- The sheet of counts within limits and entries in order is read as these, and only such a sheet is read.
 use mathlib.Core.Path.{_≡_, refl, sym, ap, _∙_, subst}
-use mathlib.Core.Bool.{true}
+use mathlib.Core.Bool.{true, _&&_}
 use mathlib.Core.List.{List, [], _∷_, _++_, append-assoc, append-nil}
 use Prim.Native.Nat.{ℕ, zero, suc, _≤_}
 use native.Mathlib.Nat.{not-suc-le-zero}
 use native.Mathlib.Omega.{arith}
+use borrow.Author.Tests.{le-leb, leb-true}
+use lib.Dec.{leb}
 use lib.ListN.{length}
+use Rattle.rules.specs.Graphs.{Limits, fewestVariables, fewestChecks}
 use Rattle.rules.specs.Refusals.{unless}
 use Rattle.rules.specs.declared.Refusal.{Refusal}
 use Rattle.rules.specs.declared.Refusal.the-variants.{Count}
 use Rattle.rules.specs.declared.Judged.{Judged}
 use Rattle.rules.specs.declared.Judged.the-variants as Judgement
-use Rattle.rules.proofs.Judging.{unless-true}
+use Rattle.rules.proofs.Judging.{unless-true, and-left, and-right, and-both}
 use Rattle.lines.specs.Numbers.{Front, other, value}
 use Rattle.lines.specs.Lines.{Pair, pair, lineText, linesText, line, fixed}
 use Rattle.lines.proofs.Lines.{line-reads, line-text, line-empty, fixed-reads, fixed-text}
 use Rattle.sheet_text.specs.Texts.{heading, titles, sheetOf}
-use Rattle.sheet_text.specs.Reading.{Lines, refused, lines, formed, below, atEnd, countsFit, limit, after, entryJudged, rows, sheetLines}
+use Rattle.sheet_text.specs.Reading.{Lines, refused, lines, formed, below, atEnd, countsFit, after, entryJudged, rows, sheetLines}
 use Rattle.sheet_text.proofs.Order.{Rising, fits-judged, judged-fits}
 
 refused-not : {r : Refusal} {c : Pair} {ps : List Pair} → refused r ≡ lines c ps → ⊥
@@ -100,39 +103,55 @@ module _ (c : Pair) where
 
 -- ---- the whole sheet
 
--- counts and entries that a sheet may have
-pub record Lined (c : Pair) (ps : List Pair) : Type 0 where
-  pub counts : countsFit c ≡ true
-  pub rising : Rising c (pair 0 0) ps
-  pub few : length ps ≤ limit
+-- what the test of the counts asks
+pub counts-told : (L : Limits) (c : Pair) → countsFit L c ≡ true
+    → ((fewestVariables ≤ c .first) × (c .first ≤ L .variables)) × ((fewestChecks ≤ c .second) × (c .second ≤ L .checks))
+counts-told L c h =
+    let n = leb fewestVariables (c .first) in
+    let N = leb (c .first) (L .variables) in
+    let m = leb fewestChecks (c .second) in
+    let M = leb (c .second) (L .checks) in (
+      (leb-true _ _ (and-left n N (and-left (n && N) (m && M) h)), leb-true _ _ (and-right n N (and-left (n && N) (m && M) h))),
+      (leb-true _ _ (and-left m M (and-right (n && N) (m && M) h)), leb-true _ _ (and-right m M (and-right (n && N) (m && M) h))),
+    )
 
-pub sheet-read : (c : Pair) (ps : List Pair) → Lined c ps → sheetLines (sheetOf c ps) ≡ lines c ps
+pub counts-fit : (L : Limits) (c : Pair) → (fewestVariables ≤ c .first) × (c .first ≤ L .variables)
+    → (fewestChecks ≤ c .second) × (c .second ≤ L .checks) → countsFit L c ≡ true
+counts-fit L c n m = and-both (and-both (le-leb _ _ (n .0)) (le-leb _ _ (n .1))) (and-both (le-leb _ _ (m .0)) (le-leb _ _ (m .1)))
+
+-- counts and entries that a sheet may have
+pub record Lined (L : Limits) (c : Pair) (ps : List Pair) : Type 0 where
+  pub counts : countsFit L c ≡ true
+  pub rising : Rising c (pair 0 0) ps
+  pub few : length ps ≤ L .entries
+
+pub sheet-read : {L : Limits} (c : Pair) (ps : List Pair) → Lined L c ps → sheetLines L (sheetOf c ps) ≡ lines c ps
 unfolding sheetLines sheetOf
-sheet-read c ps h =
+sheet-read {L} c ps h =
     rw (
       fixed-reads heading (lineText c ++ (titles ++ linesText ps)),
       line-reads c (titles ++ linesText ps),
       h .counts,
       fixed-reads titles (linesText ps),
     )
-    (rows-read c ps limit 4 (pair 0 0) [] (h .rising) (h .few))
+    (rows-read c ps (L .entries) 4 (pair 0 0) [] (h .rising) (h .few))
 
-pub sheet-told : (t : List ℕ) (c : Pair) (ps : List Pair) → sheetLines t ≡ lines c ps → (t ≡ sheetOf c ps) × Lined c ps
+pub sheet-told : {L : Limits} (t : List ℕ) (c : Pair) (ps : List Pair) → sheetLines L t ≡ lines c ps → (t ≡ sheetOf c ps) × Lined L c ps
 unfolding sheetLines sheetOf
-sheet-told t c ps e =
+sheet-told {L} t c ps e =
     let a = formed-told 1 (fixed heading t) _ c ps e in
     let b = formed-told 2 (line (a .1)) _ c ps (a .3) in
     let k = b .0 in
-    let j = below-told (unless (countsFit k) (Count 2)) _ c ps (b .3) in
+    let j = below-told (unless (countsFit L k) (Count 2)) _ c ps (b .3) in
     let d = formed-told 3 (fixed titles (b .1)) _ c ps (j .1) in
-    let w = rows-told k limit 4 (pair 0 0) [] (d .1) c ps (d .3) in
+    let w = rows-told k (L .entries) 4 (pair 0 0) [] (d .1) c ps (d .3) in
     let text : t ≡ sheetOf k ps =
     fixed-text heading t (a .1) (a .0) (a .2) ∙ ap (λ (u : List ℕ). heading ++ u) (line-text k (a .1) (b .1) (b .2)
     ∙ ap (λ (u : List ℕ). lineText k ++ u) (fixed-text titles (b .1) (d .1) (d .0) (d .2)
     ∙ ap (λ (u : List ℕ). titles ++ u) (w .text ∙ ap linesText (sym (w .all))))) in
-    let lined : Lined k ps = record {
-      counts = unless-true (countsFit k) (Count 2) (j .0);
+    let lined : Lined L k ps = record {
+      counts = unless-true (countsFit L k) (Count 2) (j .0);
       rising = subst (Rising k (pair 0 0)) (sym (w .all)) (w .rising);
       few = omega (arith, w .few, ap length (w .all));
     } in
-    subst (λ (k : Pair). (t ≡ sheetOf k ps) × Lined k ps) (w .counts) (text, lined)
+    subst (λ (k : Pair). (t ≡ sheetOf k ps) × Lined L k ps) (w .counts) (text, lined)

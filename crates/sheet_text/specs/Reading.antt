@@ -6,7 +6,7 @@ use Prim.Native.Nat.{ℕ, zero, suc, _+_}
 use lib.Dec.{eqb, leb, ltb}
 use lib.ListN.{length, getD}
 use Rattle.rules.specs.Ranges.{one}
-use Rattle.rules.specs.Graphs.{Graph}
+use Rattle.rules.specs.Graphs.{Graph, Limits, fewestVariables, fewestChecks}
 use Rattle.rules.specs.Refusals.{unless, orElse}
 use Rattle.rules.specs.declared.Refusal.{Refusal}
 use Rattle.rules.specs.declared.Refusal.the-variants.{Form, Count, Range, Order}
@@ -36,13 +36,10 @@ abbrev pub atEnd : List ℕ → Lines → Lines → Lines
 atEnd [] x y = x
 atEnd (b ∷ t) x y = y
 
--- 'n from 2 to 8,192; m from 1 to 8,192.'
-abbrev pub countsFit : Pair → Bool
-countsFit c = (leb 2 (c .first) && leb (c .first) 8192) && (leb 1 (c .second) && leb (c .second) 8192)
-
--- 'E at most 32,768.'
-abbrev pub limit : ℕ
-limit = 32768
+-- Whether n and m are within limits.
+abbrev pub countsFit : Limits → Pair → Bool
+countsFit L c =
+    (leb fewestVariables (c .first) && leb (c .first) (L .variables)) && (leb fewestChecks (c .second) && leb (c .second) (L .checks))
 
 -- Whether p is the place `low` or after it, by check and then variable.
 abbrev pub notBefore : Pair → Pair → Bool
@@ -66,11 +63,11 @@ module _ (c : Pair) where
       atEnd t (lines c done)
       (formed l (line t) (λ p r. below (entryJudged l low p) (rows k (suc l) (after p) (done ++ (p ∷ [])) r)))
 
--- All lines: the two fixed ones, the counts between them ('2, counts outside limits'), and the entries.
-unfoldable pub sheetLines : List ℕ → Lines
-sheetLines t =
+-- All lines, under limits L: the two fixed ones, the counts between them ('2, counts outside limits'), and the entries.
+unfoldable pub sheetLines : Limits → List ℕ → Lines
+sheetLines L t =
     formed 1 (fixed heading t) (λ u t₁. formed 2 (line t₁) (λ c t₂.
-    below (unless (countsFit c) (Count 2)) (formed 3 (fixed titles t₂) (λ u t₃. rows c limit 4 (pair 0 0) [] t₃))))
+    below (unless (countsFit L c) (Count 2)) (formed 3 (fixed titles t₂) (λ u t₃. rows c (L .entries) 4 (pair 0 0) [] t₃))))
 
 -- ---- the graph of the entries
 

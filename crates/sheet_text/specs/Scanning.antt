@@ -3,8 +3,9 @@ use mathlib.Core.Path.{_≡_}
 use mathlib.Core.List.{List, []}
 use Prim.Native.Nat.{ℕ}
 use lib.ListN.{length, drop}
+use Rattle.rules.specs.Graphs.{Limits}
 use Rattle.lines.specs.Lines.{Pair, pair}
-use Rattle.sheet_text.specs.Reading.{Lines, refused, lines, limit, rows}
+use Rattle.sheet_text.specs.Reading.{Lines, refused, lines, rows}
 use Rattle.sheet_text.specs.declared.Counts.{Counts}
 use Rattle.sheet_text.specs.declared.Scanned.{Scanned}
 use Rattle.sheet_text.specs.declared.Scanned.the-variants as Scans
@@ -13,12 +14,12 @@ abbrev pub counted : Counts → Pair
 counted k = pair (k .variables) (k .checks)
 
 -- The lines x of the text s have these counts, and the entries' lines begin at `at`.
-pub record LinesAt (s : List ℕ) (x : Lines) (k : Counts) (at : ℕ) : Type 0 where
+pub record LinesAt (L : Limits) (s : List ℕ) (x : Lines) (k : Counts) (at : ℕ) : Type 0 where
   pub entries : List Pair
   pub are : x ≡ lines (counted k) entries
   pub many : length entries ≡ k .entries
-  pub rest : rows (counted k) limit 4 (pair 0 0) [] (drop at s) ≡ lines (counted k) entries
+  pub rest : rows (counted k) (L .entries) 4 (pair 0 0) [] (drop at s) ≡ lines (counted k) entries
 
-abbrev pub ScannedAs : List ℕ → Lines → Scanned → Type 0
-ScannedAs s x (Scans.Refused r) = x ≡ refused r
-ScannedAs s x (Scans.Lines k at) = LinesAt s x k at
+abbrev pub ScannedAs : Limits → List ℕ → Lines → Scanned → Type 0
+ScannedAs L s x (Scans.Refused r) = x ≡ refused r
+ScannedAs L s x (Scans.Lines k at) = LinesAt L s x k at

@@ -5,8 +5,9 @@ ghost use mathlib.Core.List.{[]};
 ghost use Prim.Native.Nat.{_≤_};
 ghost use lib.Dec.{ltb};
 ghost use lib.ListN.{length, drop};
+ghost use Rattle.rules.specs.Graphs.{limits};
 ghost use Rattle.lines.specs.Lines.{pair};
-ghost use Rattle.sheet_text.specs.Reading.{limit, notBefore, countsFit, entryJudged, rows, sheetLines};
+ghost use Rattle.sheet_text.specs.Reading.{notBefore, countsFit, entryJudged, rows, sheetLines};
 ghost use Rattle.sheet_text.specs.Scanning.{ScannedAs};
 use lines::Line;
 use lines::Mark;
@@ -28,9 +29,10 @@ pub enum Scanned {
 
 // Whether the counts are within limits.
 fn counts_fit(n: usize, m: usize) -> bool
-    ensures { λ r. ⌜ r ≡ countsFit (pair n m) ⌝ }
+    ensures { λ r. ⌜ r ≡ countsFit limits (pair n m) ⌝ }
 {
-    ((2 <= n) & (n <= 8192)) & ((1 <= m) & (m <= 8192))
+    ((rules::FEWEST_VARIABLES <= n) & (n <= rules::MOST_VARIABLES))
+        & ((rules::FEWEST_CHECKS <= m) & (m <= rules::MOST_CHECKS))
 }
 
 // Whether the entry c v is of the graph.
@@ -62,15 +64,15 @@ fn judge_entry(n: usize, m: usize, l: usize, c0: usize, w0: usize, c: usize, v: 
 
 // The entries' lines, from a place on.
 fn scan_entries(text: &[u8], from: usize, n: usize, m: usize) -> Scanned
-    requires { ⌜ (from ≤ length (now text)) × (n ≤ 8192) × (m ≤ 8192) ⌝ }
-    ensures { λ r. ⌜ ScannedAs (now (text .entry)) (rows (pair n m) limit 4 (pair 0 0) [] (drop from (now (text .entry)))) r ⌝ }
+    requires { ⌜ (from ≤ length (now text)) × (n ≤ limits .variables) × (m ≤ limits .checks) ⌝ }
+    ensures { λ r. ⌜ ScannedAs limits (now (text .entry)) (rows (pair n m) (limits .entries) 4 (pair 0 0) [] (drop from (now (text .entry)))) r ⌝ }
 {
     let mut at = from;
     let mut k: usize = 0;
     let mut c0: usize = 0;
     let mut w0: usize = 0;
     while at < text.len() {
-        if 32768 <= k {
+        if rules::MOST_ENTRIES <= k {
             return Scanned::Refused(Refusal::Count(k + 4));
         }
         let line = lines::line_at(text, at);
@@ -101,7 +103,7 @@ fn scan_entries(text: &[u8], from: usize, n: usize, m: usize) -> Scanned
 
 // All lines.
 pub fn scan(text: &[u8]) -> Scanned
-    ensures { λ r. ⌜ ScannedAs (now (text .entry)) (sheetLines (now (text .entry))) r ⌝ }
+    ensures { λ r. ⌜ ScannedAs limits (now (text .entry)) (sheetLines limits (now (text .entry))) r ⌝ }
 {
     let first = lines::fixed_at(b"variables checks\n", text, 0);
     let Mark::After(i) = first else {

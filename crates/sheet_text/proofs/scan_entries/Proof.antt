@@ -4,21 +4,21 @@ use native.Mathlib.Omega.{arith}
 use borrow.Author.Needs.{needs}
 use lib.ListN.{length}
 use Rattle.rules.specs.declared.Judged.the-variants as Judgement
+use Rattle.rules.specs.Graphs.{limits}
 use Rattle.lines.specs.Lines.{pair}
 use Rattle.lines.specs.Places.{LineAt}
-use Rattle.sheet_text.specs.Reading.{limit}
 use Rattle.sheet_text.proofs.Passes.{Scanning, scanning-none, scanning-end, scanning-many, scanning-other, scanning-refused, scanning-more, capped-entry, after-capped}
 use Rattle.sheet_text.proofs.scan_entries.Statement.{statement}
 use Rattle.sheet_text.proofs.scan_entries.Tie as tie
 
 abbrev Inv-loop : tie.InvT-loop
-Inv-loop text from n m at₀ k₀ c0₀ w0₀ at k c0 w0 = (k ≤ limit) × Scanning (pair n m) text from at k (pair c0 w0)
+Inv-loop text from n m at₀ k₀ c0₀ w0₀ at k c0 w0 = (k ≤ limits .entries) × Scanning (limits .entries) (pair n m) text from at k (pair c0 w0)
 
 abbrev μ-loop : tie.MeasureT-loop
 μ-loop text from n m at₀ k₀ c0₀ w0₀ at k c0 w0 = length text - at
 
 loop-holds : tie.Need-loop-holds Inv-loop μ-loop
-loop-holds c = (omega arith, scanning-none (pair (c .before .args .n) (c .before .args .m)) (c .before .args .text .now) (c .before .args .from) (c .before .pre .0))
+loop-holds c = (omega arith, scanning-none (limits .entries) (pair (c .before .args .n) (c .before .args .m)) (c .before .args .text .now) (c .before .args .from) (c .before .pre .0))
 
 add-t18 : tie.Need-add-t18 Inv-loop μ-loop
 add-t18 c = omega arith
@@ -79,7 +79,7 @@ loop-again c =
     let low = pair (c .before .before .before .before .before .before .before .before .before .loop .c0) (c .before .before .before .before .before .before .before .before .before .loop .w0) in
     let judged = sym (capped-entry (pair (c .before .before .before .before .before .before .before .before .before .before .before .args .n) (c .before .before .before .before .before .before .before .before .before .before .before .args .m)) (pair (c .before .before .before .before .before .before .before .before .before .loop .c0) (c .before .before .before .before .before .before .before .before .before .loop .w0)) (c .before .before .before .before .before .before .before .before .before .loop .k + 4) (r .pair) (c .before .before .before .before .line .given .0 .0) (c .before .before .before .before .line .given .0 .1 .0) (omega arith) (omega arith) (r .first) (r .second)) ∙ sym (c .before .before .judge-entry .ensures) ∙ c .enum-told2 .given .1 in (
       omega arith,
-      subst (Scanning counts (c .before .before .before .before .before .before .before .before .before .before .before .args .text .now) (c .before .before .before .before .before .before .before .before .before .before .before .args .from) (c .before .before .before .before .line .given .0 .1 .1 .0) (c .before .before .before .before .before .before .before .before .before .loop .k + 1))
+      subst (Scanning (limits .entries) counts (c .before .before .before .before .before .before .before .before .before .before .before .args .text .now) (c .before .before .before .before .before .before .before .before .before .before .before .args .from) (c .before .before .before .before .line .given .0 .1 .1 .0) (c .before .before .before .before .before .before .before .before .before .loop .k + 1))
           (after-capped counts low (c .before .before .before .before .before .before .before .before .before .loop .k + 4) (r .pair) (c .before .before .before .before .line .given .0 .0) (c .before .before .before .before .line .given .0 .1 .0) (omega arith) (omega arith) (r .first) (r .second) judged)
           (scanning-more (c .before .before .before .before .before .before .before .before .before .loop .inv .1) (omega arith) (omega arith) (r .pair) (c .before .before .before .before .line .given .0 .1 .1 .0) (r .reads) (r .within) judged),
     )
