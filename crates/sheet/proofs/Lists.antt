@@ -5,7 +5,7 @@ use Prim.Native.Nat.{ℕ, suc, _+_, _*_, _-_, _≤_, _<_}
 use native.Mathlib.Omega.{arith}
 use lib.ListN.{length, take, drop, length-append}
 use lib.Seq.{take-at}
-use Rattle.rules.specs.Graphs.{Graph}
+use Rattle.rules.specs.Graphs.{Graph, Limits}
 use Rattle.words.specs.Words.{word, table}
 use Rattle.words.proofs.Words.{length-table, at-table}
 use Rattle.graph.specs.Judging.{graphJudged}
@@ -17,35 +17,40 @@ use Rattle.lines.proofs.Putting.{put-same, put-front}
 use Rattle.sheet_text.specs.Reading.{Lines, startIn, columnIn, graphIn, sheetLines}
 use Rattle.sheet_text.specs.Scanning.{counted, LinesAt}
 use Rattle.sheet_text.specs.declared.Counts.{Counts}
-use Rattle.sheet_text.proofs.Sheets.{Lined, sheet-told}
+use Rattle.sheet_text.proofs.Sheets.{Lined, counts-told, sheet-told}
 use Rattle.sheet_text.proofs.Entries.{start-zero, start-most, start-up, start-end, column-within, column-rise}
 use Rattle.sheet.specs.Reading.{degreesJudged}
 use Rattle.sheet.specs.Storing.{linesGraph, Stores}
 use Rattle.sheet.specs.Theorems.{Same}
-use Rattle.sheet.proofs.Degrees.{counts-told, same-check-degrees, same-variable-degrees}
+use Rattle.sheet.proofs.Degrees.{same-check-degrees, same-variable-degrees}
 
 -- the numbers of a table that is a whole list
 table-at : (f : ℕ → ℕ) (n : ℕ) (i : ℕ) → i < n → f i < 65536 → word 2 (table 2 f n) (2 * i) ≡ f i
 table-at f n i l h = ap (λ (b : List ℕ). word 2 b (2 * i)) (sym (append-nil (table 2 f n))) ∙ at-table 2 f n [] i l h
 
-module _ (c : Pair) (ps : List Pair) (h : Lined c ps) where
-  lists-same : Same (graphOf (c .first) (table 2 (startIn ps) (suc (c .second))) (table 2 (columnIn ps) (length ps))) (graphIn c ps)
-  lists-same = record {
+-- limits under which columns and starts fit two bytes
+pub record Narrow (L : Limits) : Type 0 where
+  pub variables : L .variables ≤ 65536
+  pub entries : L .entries < 65536
+
+module _ {L : Limits} (c : Pair) (ps : List Pair) (h : Lined L c ps) where
+  lists-same : Narrow L → Same (graphOf (c .first) (table 2 (startIn ps) (suc (c .second))) (table 2 (columnIn ps) (length ps))) (graphIn c ps)
+  lists-same w = record {
     variables = refl;
     checks = omega (arith, length-table 2 (startIn ps) (suc (c .second)));
     entries = omega (arith, length-table 2 (columnIn ps) (length ps));
     starts = λ i l. table-at (startIn ps) (suc (c .second)) i (omega arith) (omega (arith, start-most ps i, h .few));
-    columns = λ e l. table-at (columnIn ps) (length ps) e l (omega (arith, column-within c (pair 0 0) ps (h .rising) e l, counts-told c (h .counts) .0 .1));
+    columns = λ e l. table-at (columnIn ps) (length ps) e l (omega (arith, column-within c (pair 0 0) ps (h .rising) e l, counts-told L c (h .counts) .0 .1));
   }
 
   -- only the degrees of a sheet's graph can be refused
   module _ (G : Graph) (s : Same G (graphIn c ps)) where
-    pub only-degrees : graphJudged G ≡ degreesJudged (graphIn c ps)
+    pub only-degrees : graphJudged L G ≡ degreesJudged L (graphIn c ps)
     unfolding graphJudged
     only-degrees = rw (
-      counts-admitted G (record {
-        variables = (omega (arith, s .variables, counts-told c (h .counts)), omega (arith, s .variables, counts-told c (h .counts)));
-        checks = (omega (arith, s .checks, counts-told c (h .counts)), omega (arith, s .checks, counts-told c (h .counts)));
+      counts-admitted {L = L} G (record {
+        variables = (omega (arith, s .variables, counts-told L c (h .counts)), omega (arith, s .variables, counts-told L c (h .counts)));
+        checks = (omega (arith, s .checks, counts-told L c (h .counts)), omega (arith, s .checks, counts-told L c (h .counts)));
         entries = omega (arith, s .entries, h .few);
       }),
       starts-admitted G (record {
@@ -55,8 +60,8 @@ module _ (c : Pair) (ps : List Pair) (h : Lined c ps) where
       }),
       columns-admitted G (λ e l. omega (arith, s .variables, s .columns e (omega (arith, s .entries)), column-within c (pair 0 0) ps (h .rising) e (omega (arith, s .entries)))),
       rows-admitted G rise,
-      same-check-degrees G (graphIn c ps) s,
-      same-variable-degrees G (graphIn c ps) s,
+      same-check-degrees L G (graphIn c ps) s,
+      same-variable-degrees L G (graphIn c ps) s,
     )
       where
         rise : (i e : ℕ) → i < G .checks → G .start i ≤ e → suc e < G .start (suc i) → G .column e < G .column (suc e)
@@ -92,18 +97,18 @@ stores-copied {G} m a b ea eb la lb p q = record {
 }
 
 -- the check of a graph on the lists that were stored
-pub stored-judged : (s : List ℕ) (k : Counts) (at : ℕ) (starts starts′ columns columns′ : List ℕ) → LinesAt s (sheetLines s) k at
-    → Stores (linesGraph (sheetLines s)) starts starts′ columns columns′
-    → graphJudged (graphOf (k .variables) (take (2 * (k .checks + 1)) starts′) (take (2 * k .entries) columns′)) ≡ degreesJudged (linesGraph (sheetLines s))
-stored-judged s k at starts starts′ columns columns′ h m =
-    ap₂ (λ (S C : List ℕ). graphJudged (graphOf (k .variables) S C)) starts-are columns-are
-    ∙ only-degrees (counted k) ps lined (graphOf (k .variables) (table 2 (startIn ps) (suc (k .checks))) (table 2 (columnIn ps) (length ps))) (lists-same (counted k) ps lined)
-    ∙ ap (λ (x : Lines). degreesJudged (linesGraph x)) (sym (h .are))
+pub stored-judged : {L : Limits} → Narrow L → (s : List ℕ) (k : Counts) (at : ℕ) (starts starts′ columns columns′ : List ℕ) → LinesAt L s (sheetLines L s) k at
+    → Stores (linesGraph (sheetLines L s)) starts starts′ columns columns′
+    → graphJudged L (graphOf (k .variables) (take (2 * (k .checks + 1)) starts′) (take (2 * k .entries) columns′)) ≡ degreesJudged L (linesGraph (sheetLines L s))
+stored-judged {L} w s k at starts starts′ columns columns′ h m =
+    ap₂ (λ (S C : List ℕ). graphJudged L (graphOf (k .variables) S C)) starts-are columns-are
+    ∙ only-degrees (counted k) ps lined (graphOf (k .variables) (table 2 (startIn ps) (suc (k .checks))) (table 2 (columnIn ps) (length ps))) (lists-same (counted k) ps lined w)
+    ∙ ap (λ (x : Lines). degreesJudged L (linesGraph x)) (sym (h .are))
   where
     ps : List Pair
     ps = h .entries
 
-    lined : Lined (counted k) ps
+    lined : Lined L (counted k) ps
     lined = sheet-told s (counted k) ps (h .are) .1
 
     held : Stores (graphIn (counted k) ps) starts starts′ columns columns′
@@ -116,8 +121,8 @@ stored-judged s k at starts starts′ columns columns′ h m =
     columns-are = columns-front held (2 * k .entries) (omega (arith, h .many))
 
 -- the lists are long enough for what was stored
-pub stored-long : (s : List ℕ) (k : Counts) (at : ℕ) (starts starts′ columns columns′ : List ℕ) → LinesAt s (sheetLines s) k at
-    → Stores (linesGraph (sheetLines s)) starts starts′ columns columns′ → (2 * (k .checks + 1) ≤ length starts′) × (2 * k .entries ≤ length columns′)
+pub stored-long : {L : Limits} (s : List ℕ) (k : Counts) (at : ℕ) (starts starts′ columns columns′ : List ℕ) → LinesAt L s (sheetLines L s) k at
+    → Stores (linesGraph (sheetLines L s)) starts starts′ columns columns′ → (2 * (k .checks + 1) ≤ length starts′) × (2 * k .entries ≤ length columns′)
 stored-long s k at starts starts′ columns columns′ h m =
     let ps = h .entries in
     let held = subst (λ (x : Lines). Stores (linesGraph x) starts starts′ columns columns′) (h .are) m in (
@@ -126,7 +131,7 @@ stored-long s k at starts starts′ columns columns′ h m =
     )
 
 -- the limits of the counts, as the code needs them
-pub counts-small : (s : List ℕ) (k : Counts) (at : ℕ) → LinesAt s (sheetLines s) k at → (k .checks ≤ 8192) × (k .entries ≤ 32768)
-counts-small s k at h =
+pub counts-small : {L : Limits} (s : List ℕ) (k : Counts) (at : ℕ) → LinesAt L s (sheetLines L s) k at → (k .checks ≤ L .checks) × (k .entries ≤ L .entries)
+counts-small {L} s k at h =
     let lined = sheet-told s (counted k) (h .entries) (h .are) .1 in
-    (counts-told (counted k) (lined .counts) .1 .1, omega (arith, lined .few, h .many))
+    (counts-told L (counted k) (lined .counts) .1 .1, omega (arith, lined .few, h .many))

@@ -7,19 +7,19 @@ use native.Mathlib.Omega.{arith}
 use borrow.Author.Tests.{lt-ltb, le-ltb}
 use lib.ListN.{length, drop, length-append}
 use lib.Seq.{getD-at}
+use Rattle.rules.specs.Graphs.{Limits}
 use Rattle.words.proofs.Filling.{Filled, filled-none, filled-end}
 use Rattle.lines.specs.Numbers.{other, value}
 use Rattle.lines.specs.Lines.{Pair, pair, linesText, line}
-use Rattle.lines.specs.Places.{LineRead}
+use Rattle.lines.specs.Places.{cap, LineRead}
 use Rattle.lines.proofs.Lines.{line-reads, other-not}
-use Rattle.sheet_text.specs.Reading.{Lines, lines, limit, after, startIn, columnIn, sheetLines}
+use Rattle.sheet_text.specs.Reading.{Lines, lines, after, startIn, columnIn, sheetLines}
 use Rattle.sheet_text.specs.Scanning.{counted, LinesAt}
 use Rattle.sheet_text.specs.declared.Counts.{Counts}
 use Rattle.sheet_text.proofs.Order.{Fits, Rising}
-use Rattle.sheet_text.proofs.Sheets.{rows-told, sheet-told}
+use Rattle.sheet_text.proofs.Sheets.{rows-told, counts-told, sheet-told}
 use Rattle.sheet_text.proofs.Entries.{start-append, start-none}
 use Rattle.sheet.specs.Storing.{linesGraph, Stores}
-use Rattle.sheet.proofs.Degrees.{counts-told}
 
 -- after k lines, at place i, with the starts below place `filled` made
 pub record Storing (c : Pair) (ps : List Pair) (s starts₀ starts columns₀ columns : List ℕ) (i k filled : ℕ) : Type 0 where
@@ -36,11 +36,11 @@ pub record Storing (c : Pair) (ps : List Pair) (s starts₀ starts columns₀ co
   pub starts-are : Filled 2 (startIn ps) starts₀ starts filled
   pub columns-are : Filled 2 (columnIn ps) columns₀ columns k
 
-pub storing-none : (s : List ℕ) (x : Lines) (k : Counts) (at : ℕ) (starts columns : List ℕ) (h : LinesAt s x k at)
+pub storing-none : {L : Limits} (s : List ℕ) (x : Lines) (k : Counts) (at : ℕ) (starts columns : List ℕ) (h : LinesAt L s x k at)
     → Storing (counted k) (h .entries) s starts starts columns columns at 0 0
 unfolding startIn
-storing-none s x k at starts columns h =
-    let w = rows-told (counted k) limit 4 (pair 0 0) [] (drop at s) (counted k) (h .entries) (h .rest) in
+storing-none {L} s x k at starts columns h =
+    let w = rows-told (counted k) (L .entries) 4 (pair 0 0) [] (drop at s) (counted k) (h .entries) (h .rest) in
     record {
       done = [];
       rest = h .entries;
@@ -146,31 +146,33 @@ module _ {c : Pair} {ps : List Pair} {s starts₀ starts columns₀ columns : Li
 
 -- ---- the same at the numbers of the code
 
--- the lines s of a sheet with m checks and `count` entries, some of them stored
-pub record Stage (s : List ℕ) (m count : ℕ) (starts₀ starts columns₀ columns : List ℕ) (i k filled : ℕ) : Type 0 where
+-- the lines s of a sheet with m checks and `count` entries, some of them stored; the limits are not above the cap
+pub record Stage (L : Limits) (s : List ℕ) (m count : ℕ) (starts₀ starts columns₀ columns : List ℕ) (i k filled : ℕ) : Type 0 where
   pub variables : ℕ
   pub entries : List Pair
-  pub are : sheetLines s ≡ lines (pair variables m) entries
+  pub are : sheetLines L s ≡ lines (pair variables m) entries
   pub many : length entries ≡ count
-  pub small : (variables ≤ 8192) × (m ≤ 8192) × (count ≤ 32768)
+  pub small : (variables ≤ L .variables) × (m ≤ L .checks) × (count ≤ L .entries)
+  pub exact : (L .variables ≤ cap) × (L .checks ≤ cap)
   pub at : Storing (pair variables m) entries s starts₀ starts columns₀ columns i k filled
 
-pub stage-none : (s : List ℕ) (k : Counts) (at : ℕ) (starts columns : List ℕ) → LinesAt s (sheetLines s) k at
-    → Stage s (k .checks) (k .entries) starts starts columns columns at 0 0
-stage-none s k at starts columns h =
+pub stage-none : {L : Limits} → (L .variables ≤ cap) × (L .checks ≤ cap) → (s : List ℕ) (k : Counts) (at : ℕ) (starts columns : List ℕ)
+    → LinesAt L s (sheetLines L s) k at → Stage L s (k .checks) (k .entries) starts starts columns columns at 0 0
+stage-none {L} exact s k at starts columns h =
     let told = sheet-told s (counted k) (h .entries) (h .are) .1 in
-    let limits = counts-told (counted k) (told .counts) in
+    let within = counts-told L (counted k) (told .counts) in
     record {
       variables = k .variables;
       entries = h .entries;
       are = h .are;
       many = h .many;
-      small = (limits .0 .1, limits .1 .1, omega (arith, told .few, h .many));
-      at = storing-none s (sheetLines s) k at starts columns h;
+      small = (within .0 .1, within .1 .1, omega (arith, told .few, h .many));
+      exact = exact;
+      at = storing-none s (sheetLines L s) k at starts columns h;
     }
 
-module _ {s : List ℕ} {m count : ℕ} {starts₀ starts columns₀ columns : List ℕ} {i k filled : ℕ}
-    (q : Stage s m count starts₀ starts columns₀ columns i k filled) where
+module _ {L : Limits} {s : List ℕ} {m count : ℕ} {starts₀ starts columns₀ columns : List ℕ} {i k filled : ℕ}
+    (q : Stage L s m count starts₀ starts columns₀ columns i k filled) where
   module _ (h : k < count) where
     short : k < length (q .entries)
     short = omega (arith, q .many)
@@ -183,12 +185,12 @@ module _ {s : List ℕ} {m count : ℕ} {starts₀ starts columns₀ columns : L
       fits = storing-fits (q .at) short (r .pair) (drop next s) (r .reads)
 
       first-is : a ≡ r .pair .first
-      first-is = omega (arith, r .first, fits .check, q .small)
+      first-is = omega (arith, r .first, fits .check, q .small, q .exact)
 
       second-is : b ≡ r .pair .second
-      second-is = omega (arith, r .second, fits .variable, q .small)
+      second-is = omega (arith, r .second, fits .variable, q .small, q .exact)
 
-      pub stage-numbers : (a < m) × (b < 8192) × (filled ≤ a + 1)
+      pub stage-numbers : (a < m) × (b < L .variables) × (filled ≤ a + 1)
       stage-numbers = (
         omega (arith, first-is, fits .check),
         omega (arith, second-is, fits .variable, q .small),
@@ -202,13 +204,14 @@ module _ {s : List ℕ} {m count : ℕ} {starts₀ starts columns₀ columns : L
       stage-column = second-is ∙ storing-column (q .at) short (r .pair) (drop next s) (r .reads)
 
       pub stage-more : {starts′ columns′ : List ℕ} → Filled 2 (startIn (q .entries)) starts₀ starts′ (a + 1)
-          → Filled 2 (columnIn (q .entries)) columns₀ columns′ (k + 1) → Stage s m count starts₀ starts′ columns₀ columns′ next (k + 1) (a + 1)
+          → Filled 2 (columnIn (q .entries)) columns₀ columns′ (k + 1) → Stage L s m count starts₀ starts′ columns₀ columns′ next (k + 1) (a + 1)
       stage-more {starts′} {columns′} f g = record {
         variables = q .variables;
         entries = q .entries;
         are = q .are;
         many = q .many;
         small = q .small;
+        exact = q .exact;
         at =
             subst (λ (x : ℕ). Storing (pair (q .variables) m) (q .entries) s starts₀ starts′ columns₀ columns′ next (k + 1) (x + 1)) (sym first-is)
             (storing-more (q .at) short (r .pair) (drop next s) (r .reads) next refl
@@ -219,5 +222,5 @@ module _ {s : List ℕ} {m count : ℕ} {starts₀ starts columns₀ columns : L
     pub stage-ends : (j : ℕ) → filled ≤ j → count ≡ startIn (q .entries) j
     stage-ends j l = sym (q .many) ∙ storing-ends (q .at) (omega (arith, q .many)) j l
 
-    pub stage-all : {starts′ : List ℕ} → Filled 2 (startIn (q .entries)) starts₀ starts′ (m + 1) → Stores (linesGraph (sheetLines s)) starts₀ starts′ columns₀ columns
+    pub stage-all : {starts′ : List ℕ} → Filled 2 (startIn (q .entries)) starts₀ starts′ (m + 1) → Stores (linesGraph (sheetLines L s)) starts₀ starts′ columns₀ columns
     stage-all f = storing-all (q .at) (omega (arith, q .many)) (q .are) f

@@ -1,11 +1,11 @@
--- Texts and admitted graphs determine each other.
+-- Texts and admitted graphs determine each other, under any limits.
 use mathlib.Core.Path.{_≡_, refl, sym, ap, ap₂, _∙_, subst}
 use mathlib.Core.List.{List}
 use Prim.Native.Nat.{ℕ, suc, _+_, _*_, _≤_, _<_}
 use native.Mathlib.Omega.{arith}
 use borrow.Author.Tests.{le-leb}
 use Rattle.rules.specs.Ranges.{joined, tabulate}
-use Rattle.rules.specs.Graphs.{Graph, Admitted, checkDegree}
+use Rattle.rules.specs.Graphs.{Graph, Limits, AdmittedWithin, checkDegree}
 use Rattle.rules.specs.Refusals.{unless}
 use Rattle.rules.specs.declared.Refusal.{Refusal}
 use Rattle.rules.specs.declared.Refusal.the-variants.{Buffer}
@@ -30,34 +30,34 @@ turned-not {r} {G} e = let z : _≡_ {A = ℕ} 0 1 = cc in absurd (omega arith)
 
 -- ---- a text that is accepted
 
-accepted : (t : List ℕ) (s c : ℕ) (G : Graph) → sheetRead t s c ≡ graph G → Admitted G × (t ≡ sheetText G)
+accepted : (L : Limits) (t : List ℕ) (s c : ℕ) (G : Graph) → sheetRead L t s c ≡ graph G → AdmittedWithin L G × (t ≡ sheetText G)
 unfolding sheetRead sheetText
-accepted t s c G e = go (sheetLines t) refl e
+accepted L t s c G e = go (sheetLines L t) refl e
   where
-    end : (k : Pair) (ps : List Pair) → sheetLines t ≡ lines k ps → (j : Judged) → afterLines (graphIn k ps) s c ≡ j
-        → unlessRefused j (graphIn k ps) ≡ graph G → Admitted G × (t ≡ sheetText G)
+    end : (k : Pair) (ps : List Pair) → sheetLines L t ≡ lines k ps → (j : Judged) → afterLines L (graphIn k ps) s c ≡ j
+        → unlessRefused j (graphIn k ps) ≡ graph G → AdmittedWithin L G × (t ≡ sheetText G)
     end k ps x (Judgement.Refused r) p q = absurd (turned-not q)
     end k ps x Judgement.Admitted p q =
         let H : Graph = graphIn k ps in
         let told = sheet-told t k ps x in
-        let degrees = orElse-left (degreesJudged H) (unless (roomFor H s c) Buffer) p in
-        let a = sheet-admitted k ps (told .1) (orElse-left (checkDegreesJudged H) (variableDegreesJudged H) degrees)
-        (orElse-right (checkDegreesJudged H) (variableDegreesJudged H) degrees) in
+        let degrees = orElse-left (degreesJudged L H) (unless (roomFor H s c) Buffer) p in
+        let a = sheet-admitted k ps (told .1) (orElse-left (checkDegreesJudged L H) (variableDegreesJudged L H) degrees)
+        (orElse-right (checkDegreesJudged L H) (variableDegreesJudged L H) degrees) in
         let same : H ≡ G = cc in
-        subst (λ (F : Graph). Admitted F × (t ≡ sheetText F)) same
+        subst (λ (F : Graph). AdmittedWithin L F × (t ≡ sheetText F)) same
         (a, told .0 ∙ ap (sheetOf k) (sym (entries-back k ps (told .1 .rising) (rowed a))))
 
-    go : (x : Lines) → sheetLines t ≡ x → readLines x s c ≡ graph G → Admitted G × (t ≡ sheetText G)
+    go : (x : Lines) → sheetLines L t ≡ x → readLines L x s c ≡ graph G → AdmittedWithin L G × (t ≡ sheetText G)
     go (refused r) x q = absurd (turned-not q)
-    go (lines k ps) x q = end k ps x (afterLines (graphIn k ps) s c) refl q
+    go (lines k ps) x q = end k ps x (afterLines L (graphIn k ps) s c) refl q
 
 -- ---- the text of an admitted graph
 
-module _ (G : Graph) (a : Admitted G) where
+module _ (L : Limits) (G : Graph) (a : AdmittedWithin L G) where
   abbrev counts : Pair
   counts = pair (G .variables) (G .checks)
 
-  lines-back : sheetLines (sheetText G) ≡ lines counts (entriesOf G)
+  lines-back : sheetLines L (sheetText G) ≡ lines counts (entriesOf G)
   unfolding sheetText
   lines-back = sheet-read counts (entriesOf G) (entries-lined G a)
 
@@ -70,15 +70,15 @@ module _ (G : Graph) (a : Admitted G) where
     columns = columns-back G (rowed a);
   }
 
-  back : (s c : ℕ) → 2 * suc (G .checks) ≤ s → 2 * G .entries ≤ c → (H : Graph) × (sheetRead (sheetText G) s c ≡ graph H) × Same H G
+  back : (s c : ℕ) → 2 * suc (G .checks) ≤ s → 2 * G .entries ≤ c → (H : Graph) × (sheetRead L (sheetText G) s c ≡ graph H) × Same H G
   unfolding sheetRead
   back s c hs hc =
       let H : Graph = graphIn counts (entriesOf G) in (
         H,
         rw (
           lines-back,
-          same-check-degrees H G same-back ∙ check-degrees-admitted G (a .checkDegrees),
-          same-variable-degrees H G same-back ∙ variable-degrees-admitted G (a .variableDegrees),
+          same-check-degrees L H G same-back ∙ check-degrees-admitted L G (a .checkDegrees),
+          same-variable-degrees L H G same-back ∙ variable-degrees-admitted L G (a .variableDegrees),
           le-leb (2 * suc (G .checks)) s hs,
           le-leb (2 * H .entries) c (omega (arith, same-back .entries)),
         ),
@@ -87,15 +87,15 @@ module _ (G : Graph) (a : Admitted G) where
 
 -- ---- the same text, the same graph
 
-one-graph : (G H : Graph) → Admitted G → Admitted H → sheetText G ≡ sheetText H → Same G H
-one-graph G H a b e =
-    let x : lines (counts G a) (entriesOf G) ≡ lines (counts H b) (entriesOf H) = sym (lines-back G a) ∙ ap sheetLines e ∙ lines-back H b in
-    let k : counts G a ≡ counts H b = cc in
+one-graph : (L : Limits) (G H : Graph) → AdmittedWithin L G → AdmittedWithin L H → sheetText G ≡ sheetText H → Same G H
+one-graph L G H a b e =
+    let x : lines (counts L G a) (entriesOf G) ≡ lines (counts L H b) (entriesOf H) = sym (lines-back L G a) ∙ ap (sheetLines L) e ∙ lines-back L H b in
+    let k : counts L G a ≡ counts L H b = cc in
     let p : entriesOf G ≡ entriesOf H = cc in
-    let g = same-back G a in
-    let h = same-back H b in
+    let g = same-back L G a in
+    let h = same-back L H b in
     let m : G .checks ≡ H .checks = ap (λ (q : Pair). q .second) k in
-    let E : G .entries ≡ H .entries = sym (g .entries) ∙ ap (λ (q : List Pair). graphIn (counts G a) q .entries) p ∙ h .entries in
+    let E : G .entries ≡ H .entries = sym (g .entries) ∙ ap (λ (q : List Pair). graphIn (counts L G a) q .entries) p ∙ h .entries in
     record {
       variables = ap (λ (q : Pair). q .first) k;
       checks = m;
@@ -104,9 +104,9 @@ one-graph G H a b e =
       columns = λ e l. sym (g .columns e (omega arith)) ∙ ap (λ (q : List Pair). columnIn q e) p ∙ h .columns e l;
     }
 
-one-text : (G H : Graph) → Admitted G → Same G H → sheetText G ≡ sheetText H
+one-text : (L : Limits) (G H : Graph) → AdmittedWithin L G → Same G H → sheetText G ≡ sheetText H
 unfolding sheetText entriesOf rowEntries
-one-text G H a s =
+one-text L G H a s =
     ap₂ sheetOf (ap₂ pair (s .variables) (s .checks))
     (ap (joined (rowEntries G)) (s .checks) ∙ joined-ext (rowEntries G) (rowEntries H) (H .checks) row)
   where

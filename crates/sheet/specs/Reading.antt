@@ -5,7 +5,7 @@ use mathlib.Core.List.{List, _++_}
 use Prim.Native.Nat.{ℕ, suc, _*_}
 use lib.Dec.{leb}
 use lib.ListN.{drop}
-use Rattle.rules.specs.Graphs.{Graph}
+use Rattle.rules.specs.Graphs.{Graph, Limits}
 use Rattle.rules.specs.Refusals.{unless, orElse}
 use Rattle.rules.specs.declared.Refusal.{Refusal}
 use Rattle.rules.specs.declared.Refusal.the-variants.{Buffer}
@@ -27,24 +27,24 @@ abbrev pub roomFor : Graph → ℕ → ℕ → Bool
 roomFor G s c = leb (2 * suc (G .checks)) s && leb (2 * G .entries) c
 
 -- 'After the last line 5, as above': lowest check, else m + lowest variable.
-abbrev pub degreesJudged : Graph → Judged
-degreesJudged G = orElse (checkDegreesJudged G) (variableDegreesJudged G)
+abbrev pub degreesJudged : Limits → Graph → Judged
+degreesJudged L G = orElse (checkDegreesJudged L G) (variableDegreesJudged L G)
 
 -- 'Then 6 with place 0.'
-abbrev pub afterLines : Graph → ℕ → ℕ → Judged
-afterLines G s c = orElse (degreesJudged G) (unless (roomFor G s c) Buffer)
+abbrev pub afterLines : Limits → Graph → ℕ → ℕ → Judged
+afterLines L G s c = orElse (degreesJudged L G) (unless (roomFor G s c) Buffer)
 
 abbrev pub unlessRefused : Judged → Graph → Reading
 unlessRefused Judgement.Admitted G = graph G
 unlessRefused (Judgement.Refused r) G = turned r
 
-abbrev pub readLines : Lines → ℕ → ℕ → Reading
-readLines (refused r) s c = turned r
-readLines (lines k ps) s c = unlessRefused (afterLines (graphIn k ps) s c) (graphIn k ps)
+abbrev pub readLines : Limits → Lines → ℕ → ℕ → Reading
+readLines L (refused r) s c = turned r
+readLines L (lines k ps) s c = unlessRefused (afterLines L (graphIn k ps) s c) (graphIn k ps)
 
--- What reading the text gives, where lists of s and c bytes are lent.
-unfoldable pub sheetRead : List ℕ → ℕ → ℕ → Reading
-sheetRead t s c = readLines (sheetLines t) s c
+-- What reading the text gives under limits L, where lists of s and c bytes are lent.
+unfoldable pub sheetRead : Limits → List ℕ → ℕ → ℕ → Reading
+sheetRead L t s c = readLines L (sheetLines L t) s c
 
 -- What is refused of it.
 abbrev pub readJudged : Reading → Judged

@@ -2,7 +2,7 @@
 use mathlib.Core.Path.{_≡_}
 use mathlib.Core.List.{List, []}
 use Prim.Native.Nat.{ℕ}
-use Rattle.rules.specs.Graphs.{Graph}
+use Rattle.rules.specs.Graphs.{Graph, Limits}
 use Rattle.rules.specs.declared.Judged.{Judged}
 use Rattle.lines.specs.Lines.{pair}
 use Rattle.sheet_text.specs.Reading.{Lines, refused, lines, graphIn}
@@ -19,6 +19,6 @@ pub record Stores (G : Graph) (s s′ c c′ : List ℕ) : Type 0 where
   pub columns : c′ ≡ columnsOf (graph G) c
 
 -- The graph in the reader's own lists, and what is refused of it where lists of so many bytes are lent.
-pub record JudgedStored (G : Graph) (starts columns : ℕ) (r : Judged) (s s′ c c′ : List ℕ) : Type 0 where
-  pub judged : r ≡ afterLines G starts columns
+pub record JudgedStored (L : Limits) (G : Graph) (starts columns : ℕ) (r : Judged) (s s′ c c′ : List ℕ) : Type 0 where
+  pub judged : r ≡ afterLines L G starts columns
   pub stores : Stores G s s′ c c′

@@ -1,8 +1,8 @@
--- Texts and admitted graphs determine each other.
+-- Texts and admitted graphs determine each other, under any limits.
 use mathlib.Core.Path.{_≡_}
 use mathlib.Core.List.{List}
 use Prim.Native.Nat.{ℕ, suc, _*_, _≤_, _<_}
-use Rattle.rules.specs.Graphs.{Graph, Admitted}
+use Rattle.rules.specs.Graphs.{Graph, Limits, AdmittedWithin}
 use Rattle.sheet_text.specs.Texts.{sheetText}
 use Rattle.sheet.specs.Reading.{graph, sheetRead}
 
@@ -16,10 +16,10 @@ pub record Same (G H : Graph) : Type 0 where
 
 pub record TextsAndGraphs : Type 0 where
   -- a text that is accepted is the text of the graph it gives, and that graph is admitted
-  pub accepted : (t : List ℕ) (s c : ℕ) (G : Graph) → sheetRead t s c ≡ graph G → Admitted G × (t ≡ sheetText G)
+  pub accepted : (L : Limits) (t : List ℕ) (s c : ℕ) (G : Graph) → sheetRead L t s c ≡ graph G → AdmittedWithin L G × (t ≡ sheetText G)
   -- the text of an admitted graph is accepted where enough is lent, and gives that graph back
-  pub back : (G : Graph) → Admitted G → (s c : ℕ) → 2 * suc (G .checks) ≤ s → 2 * G .entries ≤ c
-      → (H : Graph) × (sheetRead (sheetText G) s c ≡ graph H) × Same H G
+  pub back : (L : Limits) (G : Graph) → AdmittedWithin L G → (s c : ℕ) → 2 * suc (G .checks) ≤ s → 2 * G .entries ≤ c
+      → (H : Graph) × (sheetRead L (sheetText G) s c ≡ graph H) × Same H G
   -- so two admitted graphs with one text are the same, and the same graph has one text
-  pub oneGraph : (G H : Graph) → Admitted G → Admitted H → sheetText G ≡ sheetText H → Same G H
-  pub oneText : (G H : Graph) → Admitted G → Same G H → sheetText G ≡ sheetText H
+  pub oneGraph : (L : Limits) (G H : Graph) → AdmittedWithin L G → AdmittedWithin L H → sheetText G ≡ sheetText H → Same G H
+  pub oneText : (L : Limits) (G H : Graph) → AdmittedWithin L G → Same G H → sheetText G ≡ sheetText H

@@ -5,6 +5,7 @@ use mathlib.Core.List.{List, [], _∷_, _++_}
 use Prim.Native.Nat.{ℕ, suc}
 use Prim.Native.String.{String}
 use Rattle.rules.specs.Ranges.{tabulate}
+use Rattle.rules.specs.Graphs.{limits}
 use Rattle.rules.specs.Refusals.{paper}
 use Rattle.rules.specs.Trials.{sameList}
 use Rattle.lines.specs.Quoted.{ascii}
@@ -75,8 +76,8 @@ writtenAs t (graph G) = sameList t (sheetText G)
 
 unfoldable pub passes : Trial → Bool
 passes (reads t s c n m starts columns) =
-    sameList (told (sheetRead t s c)) (0 ∷ n ∷ m ∷ (starts ++ columns)) && writtenAs t (sheetRead t s c)
-passes (refuses t s c number place) = sameList (told (sheetRead t s c)) (number ∷ place ∷ [])
+    sameList (told (sheetRead limits t s c)) (0 ∷ n ∷ m ∷ (starts ++ columns)) && writtenAs t (sheetRead limits t s c)
+passes (refuses t s c number place) = sameList (told (sheetRead limits t s c)) (number ∷ place ∷ [])
 
 -- The rows of a table that fail, counted from k.
 unfoldable pub failures : ℕ → List Trial → List ℕ

@@ -3,6 +3,7 @@ ghost use mathlib.Core.Path.{_≡_};
 ghost use mathlib.Core.List.{List};
 ghost use Prim.Native.Nat.{ℕ, suc, _*_, _≤_, _<_};
 ghost use lib.ListN.{length};
+ghost use Rattle.rules.specs.Graphs.{limits};
 ghost use Rattle.words.proofs.Filling.{Filled};
 ghost use Rattle.sheet_text.specs.Reading.{sheetLines};
 ghost use Rattle.sheet_text.specs.Scanning.{LinesAt};
@@ -34,9 +35,9 @@ fn fill(starts: &mut [u8], a: usize, b: usize, x: u16)
 
 // The second pass: the entries' lines, judged before, into two lists.
 fn store(text: &[u8], at: usize, counts: Counts, starts: &mut [u8], columns: &mut [u8])
-    requires { ⌜ LinesAt (now text) (sheetLines (now text)) counts at ⌝ }
+    requires { ⌜ LinesAt limits (now text) (sheetLines limits (now text)) counts at ⌝ }
     requires { ⌜ (2 * suc (counts .checks) ≤ length (now starts)) × (2 * counts .entries ≤ length (now columns)) ⌝ }
-    ensures { λ _. ⌜ Stores (linesGraph (sheetLines (now (text .entry)))) (now (starts .entry)) (now (starts .exit)) (now (columns .entry)) (now (columns .exit)) ⌝ }
+    ensures { λ _. ⌜ Stores (linesGraph (sheetLines limits (now (text .entry)))) (now (starts .entry)) (now (starts .exit)) (now (columns .entry)) (now (columns .exit)) ⌝ }
 {
     let m = counts.checks;
     let count = counts.entries;
@@ -72,9 +73,9 @@ fn judge_stored(
     starts: usize,
     columns: usize,
 ) -> Judged
-    requires { ⌜ LinesAt (now text) (sheetLines (now text)) counts at ⌝ }
-    requires { ⌜ (16386 ≤ length (now «own_starts»)) × (65536 ≤ length (now «own_columns»)) ⌝ }
-    ensures { λ r. ⌜ JudgedStored (linesGraph (sheetLines (now (text .entry)))) starts columns r (now («own_starts» .entry)) (now («own_starts» .exit)) (now («own_columns» .entry)) (now («own_columns» .exit)) ⌝ }
+    requires { ⌜ LinesAt limits (now text) (sheetLines limits (now text)) counts at ⌝ }
+    requires { ⌜ (2 * suc (limits .checks) ≤ length (now «own_starts»)) × (2 * limits .entries ≤ length (now «own_columns»)) ⌝ }
+    ensures { λ r. ⌜ JudgedStored limits (linesGraph (sheetLines limits (now (text .entry)))) starts columns r (now («own_starts» .entry)) (now («own_starts» .exit)) (now («own_columns» .entry)) (now («own_columns» .exit)) ⌝ }
 {
     store(text, at, counts, own_starts, own_columns);
     let s = 2 * (counts.checks + 1);
@@ -94,11 +95,11 @@ fn judge_stored(
 
 // What is refused after the last line.
 fn judge_lines(text: &[u8], at: usize, counts: Counts, starts: usize, columns: usize) -> Judged
-    requires { ⌜ LinesAt (now text) (sheetLines (now text)) counts at ⌝ }
-    ensures { λ r. ⌜ r ≡ afterLines (linesGraph (sheetLines (now (text .entry)))) starts columns ⌝ }
+    requires { ⌜ LinesAt limits (now text) (sheetLines limits (now text)) counts at ⌝ }
+    ensures { λ r. ⌜ r ≡ afterLines limits (linesGraph (sheetLines limits (now (text .entry)))) starts columns ⌝ }
 {
-    let mut own_starts = [0u8; 16386];
-    let mut own_columns = [0u8; 65536];
+    let mut own_starts = [0u8; 2 * (rules::MOST_CHECKS + 1)];
+    let mut own_columns = [0u8; 2 * rules::MOST_ENTRIES];
     judge_stored(
         text,
         at,
@@ -112,7 +113,7 @@ fn judge_lines(text: &[u8], at: usize, counts: Counts, starts: usize, columns: u
 
 // Number and place of what `read` refuses for lists of so many bytes.
 pub fn judge_read(text: &[u8], starts: usize, columns: usize) -> Judged
-    ensures { λ r. ⌜ r ≡ readJudged (sheetRead (now (text .entry)) starts columns) ⌝ }
+    ensures { λ r. ⌜ r ≡ readJudged (sheetRead limits (now (text .entry)) starts columns) ⌝ }
 {
     let scanned = sheet_text::scan(text);
     match scanned {
@@ -131,9 +132,9 @@ fn hand_over(
     starts: &mut [u8],
     columns: &mut [u8],
 ) -> Sheet
-    requires { ⌜ LinesAt (now text) (sheetLines (now text)) counts at ⌝ }
-    requires { ⌜ (16386 ≤ length (now «own_starts»)) × (65536 ≤ length (now «own_columns»)) ⌝ }
-    ensures { λ r. ⌜ ReadAs (sheetRead (now (text .entry)) (length (now (starts .entry))) (length (now (columns .entry)))) r (now (starts .entry)) (now (starts .exit)) (now (columns .entry)) (now (columns .exit)) ⌝ }
+    requires { ⌜ LinesAt limits (now text) (sheetLines limits (now text)) counts at ⌝ }
+    requires { ⌜ (2 * suc (limits .checks) ≤ length (now «own_starts»)) × (2 * limits .entries ≤ length (now «own_columns»)) ⌝ }
+    ensures { λ r. ⌜ ReadAs (sheetRead limits (now (text .entry)) (length (now (starts .entry))) (length (now (columns .entry)))) r (now (starts .entry)) (now (starts .exit)) (now (columns .entry)) (now (columns .exit)) ⌝ }
 {
     let room_starts = starts.len();
     let room_columns = columns.len();
@@ -158,11 +159,11 @@ fn hand_over(
 
 // What follows the last line.
 fn finish(text: &[u8], at: usize, counts: Counts, starts: &mut [u8], columns: &mut [u8]) -> Sheet
-    requires { ⌜ LinesAt (now text) (sheetLines (now text)) counts at ⌝ }
-    ensures { λ r. ⌜ ReadAs (sheetRead (now (text .entry)) (length (now (starts .entry))) (length (now (columns .entry)))) r (now (starts .entry)) (now (starts .exit)) (now (columns .entry)) (now (columns .exit)) ⌝ }
+    requires { ⌜ LinesAt limits (now text) (sheetLines limits (now text)) counts at ⌝ }
+    ensures { λ r. ⌜ ReadAs (sheetRead limits (now (text .entry)) (length (now (starts .entry))) (length (now (columns .entry)))) r (now (starts .entry)) (now (starts .exit)) (now (columns .entry)) (now (columns .exit)) ⌝ }
 {
-    let mut own_starts = [0u8; 16386];
-    let mut own_columns = [0u8; 65536];
+    let mut own_starts = [0u8; 2 * (rules::MOST_CHECKS + 1)];
+    let mut own_columns = [0u8; 2 * rules::MOST_ENTRIES];
     hand_over(
         text,
         at,
@@ -176,7 +177,7 @@ fn finish(text: &[u8], at: usize, counts: Counts, starts: &mut [u8], columns: &m
 
 // Reads a sheet: the refusals in their order, and only then the lists.
 pub fn read(text: &[u8], starts: &mut [u8], columns: &mut [u8]) -> Sheet
-    ensures { λ r. ⌜ ReadAs (sheetRead (now (text .entry)) (length (now (starts .entry))) (length (now (columns .entry)))) r (now (starts .entry)) (now (starts .exit)) (now (columns .entry)) (now (columns .exit)) ⌝ }
+    ensures { λ r. ⌜ ReadAs (sheetRead limits (now (text .entry)) (length (now (starts .entry))) (length (now (columns .entry)))) r (now (starts .entry)) (now (starts .exit)) (now (columns .entry)) (now (columns .exit)) ⌝ }
 {
     let scanned = sheet_text::scan(text);
     match scanned {

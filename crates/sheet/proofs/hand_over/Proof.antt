@@ -2,7 +2,7 @@ use mathlib.Core.Path.{_≡_, sym, _∙_}
 use Prim.Native.Nat.{_+_, _-_, _*_, _≤_}
 use native.Mathlib.Omega.{arith}
 use lib.ListN.{length, length-take}
-use Rattle.rules.specs.Graphs.{Graph}
+use Rattle.rules.specs.Graphs.{Graph, limits}
 use Rattle.rules.specs.declared.Judged.the-variants as Judgement
 use Rattle.sheet_text.specs.Reading.{sheetLines}
 use Rattle.sheet.specs.Reading.{afterLines}
@@ -15,13 +15,13 @@ use Rattle.sheet.proofs.hand_over.Tie as tie
 
 -- the graph at hand
 abbrev G : tie.Start → Graph
-G s = linesGraph (sheetLines (s .args .text .now))
+G s = linesGraph (sheetLines limits (s .args .text .now))
 
 abbrev start : tie.After-enum-told → tie.Start
 start c = c .before .before .before .before .before .before .before .before .before .before .before .before .before .before
 
 -- nothing is refused
-admitted : (c : tie.After-enum-told) → afterLines (G (start c)) (length (start c .args .starts .now)) (length (start c .args .columns .now)) ≡ Judgement.Admitted
+admitted : (c : tie.After-enum-told) → afterLines limits (G (start c)) (length (start c .args .starts .now)) (length (start c .args .columns .now)) ≡ Judgement.Admitted
 admitted c = sym (c .before .before .before .before .before .before .judge-stored .ensures .judged) ∙ c .enum-told .given .1
 
 -- the lists that are lent are long enough
@@ -30,10 +30,10 @@ room : (c : tie.After-enum-told)
 room c =
     let s = start c in
     let k = counts-are (s .args .text .now) (s .args .counts) (s .args .at) (s .pre .0) in
-    let r = room-told (G s) (length (s .args .starts .now)) (length (s .args .columns .now)) (admitted c) in
+    let r = room-told limits (G s) (length (s .args .starts .now)) (length (s .args .columns .now)) (admitted c) in
     (omega arith, omega arith)
 
-small : (c : tie.After-enum-told) → (start c .args .counts .checks ≤ 8192) × (start c .args .counts .entries ≤ 32768)
+small : (c : tie.After-enum-told) → (start c .args .counts .checks ≤ limits .checks) × (start c .args .counts .entries ≤ limits .entries)
 small c = counts-small (start c .args .text .now) (start c .args .counts) (start c .args .at) (start c .pre .0)
 
 -- and so are the reader's own

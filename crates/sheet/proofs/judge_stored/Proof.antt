@@ -3,8 +3,7 @@ use Prim.Native.Nat.{_+_, _-_, _*_, _≤_}
 use native.Mathlib.Nat.{sub-zero}
 use native.Mathlib.Omega.{arith}
 use lib.ListN.{length, take}
-use Rattle.rules.specs.Graphs.{Graph}
-use Rattle.rules.specs.declared.Judged.the-variants as Judgement
+use Rattle.rules.specs.Graphs.{Graph, limits}
 use Rattle.graph.specs.Judging.{graphJudged}
 use Rattle.words.specs.Roles.{graphOf}
 use Rattle.sheet_text.specs.Reading.{sheetLines}
@@ -18,13 +17,13 @@ use Rattle.sheet.proofs.judge_stored.Tie as tie
 
 -- the graph at hand
 abbrev G : tie.Start → Graph
-G s = linesGraph (sheetLines (s .args .text .now))
+G s = linesGraph (sheetLines limits (s .args .text .now))
 
 -- its counts, as the code has them; they are small, and its own lists long enough
 counts : (s : tie.Start) → (G s .checks ≡ s .args .counts .checks) × (G s .entries ≡ s .args .counts .entries)
 counts s = counts-are (s .args .text .now) (s .args .counts) (s .args .at) (s .pre .0)
 
-small : (s : tie.Start) → (s .args .counts .checks ≤ 8192) × (s .args .counts .entries ≤ 32768)
+small : (s : tie.Start) → (s .args .counts .checks ≤ limits .checks) × (s .args .counts .entries ≤ limits .entries)
 small s = counts-small (s .args .text .now) (s .args .counts) (s .args .at) (s .pre .0)
 
 abbrev start : tie.After-store → tie.Start
@@ -36,11 +35,11 @@ long c = stored-long (start c .args .text .now) (start c .args .counts) (start c
 
 -- what the check of a graph finds is what the degrees have
 judged : (c : tie.After-store)
-    → graphJudged (graphOf (start c .args .counts .variables) (take (2 * (start c .args .counts .checks + 1) - 0) (c .store .last .1 .1 .1 .0)) (take (2 * start c .args .counts .entries - 0) (c .store .last .1 .1 .1 .1 .0)))
-    ≡ degreesJudged (G (start c))
+    → graphJudged limits (graphOf (start c .args .counts .variables) (take (2 * (start c .args .counts .checks + 1) - 0) (c .store .last .1 .1 .1 .0)) (take (2 * start c .args .counts .entries - 0) (c .store .last .1 .1 .1 .1 .0)))
+    ≡ degreesJudged limits (G (start c))
 judged c =
     rw (sub-zero (2 * (start c .args .counts .checks + 1)), sub-zero (2 * start c .args .counts .entries))
-    (stored-judged (start c .args .text .now) (start c .args .counts) (start c .args .at) _ (c .store .last .1 .1 .1 .0) _ (c .store .last .1 .1 .1 .1 .0) (start c .pre .0) (c .store .ensures))
+    (stored-judged (record { variables = omega arith; entries = omega arith }) (start c .args .text .now) (start c .args .counts) (start c .args .at) _ (c .store .last .1 .1 .1 .0) _ (c .store .last .1 .1 .1 .1 .0) (start c .pre .0) (c .store .ensures))
 
 store-requires : tie.Need-store-requires
 store-requires c κs =
@@ -90,7 +89,7 @@ returns : tie.Need-returns
 returns c =
     let s = c .before .before .before .before .before .before .before .before .before .before .before .before .before .before .before .before .before .before .before .before in
     let q = c .before .before .before .before .before .before .before .before .before .before .before .before .before .before in
-    record { judged = sym (degrees-refused (G s) (s .args .starts) (s .args .columns) (sym (judged q) ∙ sym (c .before .before .before .check .ensures) ∙ c .before .j .given .1)); stores = q .store .ensures }
+    record { judged = sym (degrees-refused limits (G s) (s .args .starts) (s .args .columns) (sym (judged q) ∙ sym (c .before .before .before .check .ensures) ∙ c .before .j .given .1)); stores = q .store .ensures }
 
 enum-told : tie.Need-enum-told
 enum-told c = search needs
@@ -105,7 +104,7 @@ returns-2 : tie.Need-returns-2
 returns-2 c =
     let s = c .before .before .before .before .before .before .before .before .before .before .before .before .before .before .before .before .before .before .before .before in
     let q = c .before .before .before .before .before .before .before .before .before .before .before .before .before .before in
-    record { judged = sym (starts-short (G s) (s .args .starts) (s .args .columns) (sym (judged q) ∙ sym (c .before .before .before .check .ensures) ∙ c .before .enum-told .given .1) (omega (arith, counts s))); stores = q .store .ensures }
+    record { judged = sym (starts-short limits (G s) (s .args .starts) (s .args .columns) (sym (judged q) ∙ sym (c .before .before .before .check .ensures) ∙ c .before .enum-told .given .1) (omega (arith, counts s))); stores = q .store .ensures }
 
 same-length-5 : tie.Need-same-length-5
 same-length-5 c = search needs
@@ -117,7 +116,7 @@ returns-3 : tie.Need-returns-3
 returns-3 c =
     let s = c .before .before .before .before .before .before .before .before .before .before .before .before .before .before .before .before .before .before .before .before .before in
     let q = c .before .before .before .before .before .before .before .before .before .before .before .before .before .before .before in
-    record { judged = sym (columns-short (G s) (s .args .starts) (s .args .columns) (sym (judged q) ∙ sym (c .before .before .before .before .check .ensures) ∙ c .before .before .enum-told .given .1) (omega (arith, counts s))); stores = q .store .ensures }
+    record { judged = sym (columns-short limits (G s) (s .args .starts) (s .args .columns) (sym (judged q) ∙ sym (c .before .before .before .before .check .ensures) ∙ c .before .before .enum-told .given .1) (omega (arith, counts s))); stores = q .store .ensures }
 
 same-length-7 : tie.Need-same-length-7
 same-length-7 c = search needs
@@ -129,7 +128,7 @@ returns-4 : tie.Need-returns-4
 returns-4 c =
     let s = c .before .before .before .before .before .before .before .before .before .before .before .before .before .before .before .before .before .before .before .before .before in
     let q = c .before .before .before .before .before .before .before .before .before .before .before .before .before .before .before in
-    record { judged = sym (long-enough (G s) (s .args .starts) (s .args .columns) (sym (judged q) ∙ sym (c .before .before .before .before .check .ensures) ∙ c .before .before .enum-told .given .1) (omega (arith, counts s)) (omega (arith, counts s))); stores = q .store .ensures }
+    record { judged = sym (long-enough limits (G s) (s .args .starts) (s .args .columns) (sym (judged q) ∙ sym (c .before .before .before .before .check .ensures) ∙ c .before .before .enum-told .given .1) (omega (arith, counts s)) (omega (arith, counts s))); stores = q .store .ensures }
 
 pub judge-stored-spec : {M : Type 1} → statement M
 judge-stored-spec =

@@ -1,4 +1,5 @@
 use mathlib.Core.Path.{subst}
+use Rattle.rules.specs.Graphs.{limits}
 use Rattle.sheet_text.specs.Reading.{sheetLines}
 use Rattle.sheet_text.specs.Scanning.{ScannedAs}
 use Rattle.sheet.proofs.Ways.{lines-refused}
@@ -15,7 +16,7 @@ enum-known-scanned c = search needs
 returns : tie.Need-returns
 returns c =
     let a = c .before .before .before .before .before .before .before .args in
-    lines-refused (a .text .now) (subst (ScannedAs (a .text .now) (sheetLines (a .text .now))) (c .before .scanned .given .1) (c .before .before .before .scan .ensures)) (a .starts .now) (a .columns .now)
+    lines-refused limits (a .text .now) (subst (ScannedAs limits (a .text .now) (sheetLines limits (a .text .now))) (c .before .scanned .given .1) (c .before .before .before .scan .ensures)) (a .starts .now) (a .columns .now)
 
 enum-known-scanned-2 : tie.Need-enum-known-scanned-2
 enum-known-scanned-2 c = search needs
@@ -23,7 +24,7 @@ enum-known-scanned-2 c = search needs
 finish-requires : tie.Need-finish-requires
 finish-requires c κs =
     let a = c .before .before .before .before .before .before .before .before .before .args in
-    subst (ScannedAs (a .text .now) (sheetLines (a .text .now))) (c .before .before .before .scanned2 .given .1) (c .before .before .before .before .before .scan .ensures)
+    subst (ScannedAs limits (a .text .now) (sheetLines limits (a .text .now))) (c .before .before .before .scanned2 .given .1) (c .before .before .before .before .before .scan .ensures)
 
 same-length : tie.Need-same-length
 same-length c = search needs

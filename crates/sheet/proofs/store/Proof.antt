@@ -3,6 +3,7 @@ use Prim.Native.Nat.{_+_, _-_, _≤_, _<_}
 use native.Mathlib.Omega.{arith}
 use borrow.Author.Needs.{needs}
 use lib.ListN.{drop}
+use Rattle.rules.specs.Graphs.{limits}
 use Rattle.words.proofs.Filling.{Filled, filled-more}
 use Rattle.lines.specs.Lines.{line}
 use Rattle.lines.specs.Places.{LineAt, LineRead}
@@ -12,7 +13,7 @@ use Rattle.sheet.proofs.store.Statement.{statement}
 use Rattle.sheet.proofs.store.Tie as tie
 
 abbrev Inv-loop : tie.InvT-loop
-Inv-loop text at starts₀ columns₀ m count i₀ k₀ filled₀ starts columns i k filled = (k ≤ count) × Stage text m count starts₀ starts columns₀ columns i k filled
+Inv-loop text at starts₀ columns₀ m count i₀ k₀ filled₀ starts columns i k filled = (k ≤ count) × Stage limits text m count starts₀ starts columns₀ columns i k filled
 
 abbrev μ-loop : tie.MeasureT-loop
 μ-loop text at starts₀ columns₀ m count i₀ k₀ filled₀ starts columns i k filled = count - k
@@ -23,11 +24,11 @@ read : (c : tie.After-line Inv-loop μ-loop)
 read c = subst (LineAt (c .before .before .before .before .before .before .before .before .args .text .now) (c .before .before .before .before .loop .i)) (c .line .given .1) (c .before .before .line-at .ensures)
 
 numbers : (c : tie.After-line Inv-loop μ-loop)
-    → (c .line .given .0 .0 < c .before .before .before .before .before .before .before .before .args .counts .checks) × (c .line .given .0 .1 .0 < 8192) × (c .before .before .before .before .loop .filled ≤ c .line .given .0 .0 + 1)
+    → (c .line .given .0 .0 < c .before .before .before .before .before .before .before .before .args .counts .checks) × (c .line .given .0 .1 .0 < limits .variables) × (c .before .before .before .before .loop .filled ≤ c .line .given .0 .0 + 1)
 numbers c = stage-numbers (c .before .before .before .before .loop .inv .1) (omega arith) (read c)
 
 loop-holds : tie.Need-loop-holds Inv-loop μ-loop
-loop-holds c = (omega arith, stage-none (c .before .before .before .args .text .now) (c .before .before .before .args .counts) (c .before .before .before .args .at) (c .before .before .before .args .starts .now) (c .before .before .before .args .columns .now) (c .before .before .before .pre .0))
+loop-holds c = (omega arith, stage-none (omega arith, omega arith) (c .before .before .before .args .text .now) (c .before .before .before .args .counts) (c .before .before .before .args .at) (c .before .before .before .args .starts .now) (c .before .before .before .args .columns .now) (c .before .before .before .pre .0))
 
 line-at-requires : tie.Need-line-at-requires Inv-loop μ-loop
 line-at-requires c κs = search needs

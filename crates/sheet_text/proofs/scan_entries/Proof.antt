@@ -3,7 +3,6 @@ use Prim.Native.Nat.{_+_, _-_, _≤_}
 use native.Mathlib.Omega.{arith}
 use borrow.Author.Needs.{needs}
 use lib.ListN.{length}
-use Rattle.rules.specs.declared.Judged.the-variants as Judgement
 use Rattle.rules.specs.Graphs.{limits}
 use Rattle.lines.specs.Lines.{pair}
 use Rattle.lines.specs.Places.{LineAt}
