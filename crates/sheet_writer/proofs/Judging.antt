@@ -7,7 +7,7 @@ use native.Mathlib.Omega.{arith}
 use borrow.Author.Tests.{le-leb, lt-leb, leb-true}
 use lib.Dec.{leb}
 use lib.ListN.{length}
-use Rattle.rules.specs.Graphs.{Graph, Admitted}
+use Rattle.rules.specs.Graphs.{Graph, limits, Admitted}
 use Rattle.rules.specs.Refusals.{unless}
 use Rattle.rules.specs.declared.Refusal.{Refusal}
 use Rattle.rules.specs.declared.Refusal.the-variants.{Buffer}
@@ -23,11 +23,11 @@ use Rattle.lines.specs.Putting.{Put}
 use Rattle.lines.proofs.Putting.{put-front}
 
 module _ (G : Graph) (room : ℕ) where
-  pub graph-turned : {r : Refusal} → graphJudged G ≡ Judgement.Refused r → writeJudged G room ≡ Judgement.Refused r
+  pub graph-turned : {r : Refusal} → graphJudged limits G ≡ Judgement.Refused r → writeJudged G room ≡ Judgement.Refused r
   unfolding writeJudged
   graph-turned h = rw h
 
-  module _ {size : ℕ} (h : graphJudged G ≡ Judgement.Admitted) (e : size ≡ length (sheetText G)) where
+  module _ {size : ℕ} (h : graphJudged limits G ≡ Judgement.Admitted) (e : size ≡ length (sheetText G)) where
     pub buffer-turned : room < size → writeJudged G room ≡ Judgement.Refused Buffer
     unfolding writeJudged
     buffer-turned l = rw (h, lt-leb (length (sheetText G)) room (omega arith))
@@ -40,8 +40,8 @@ module _ (G : Graph) (room : ℕ) where
   unfolding writeJudged
   write-admitted h =
       let buffer = unless (leb (length (sheetText G)) room) Buffer in (
-        graph-admitted G (orElse-left (graphJudged G) buffer h),
-        leb-true (length (sheetText G)) room (unless-true (leb (length (sheetText G)) room) Buffer (orElse-right (graphJudged G) buffer h)),
+        graph-admitted G (orElse-left (graphJudged limits G) buffer h),
+        leb-true (length (sheetText G)) room (unless-true (leb (length (sheetText G)) room) Buffer (orElse-right (graphJudged limits G) buffer h)),
       )
 
 -- ---- the answer, and the lent bytes

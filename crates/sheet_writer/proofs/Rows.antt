@@ -3,7 +3,7 @@ use mathlib.Core.Path.{_≡_, ap, _∙_}
 use Prim.Native.Nat.{ℕ, suc, _+_, _≤_, _<_}
 use native.Mathlib.Numerals.{add-one}
 use native.Mathlib.Omega.{arith}
-use Rattle.rules.specs.Graphs.{Graph, Admitted, checkDegree}
+use Rattle.rules.specs.Graphs.{Graph, limits, Admitted, checkDegree}
 use Rattle.lines.specs.Lines.{pair, lineText}
 use Rattle.rules.proofs.Rows.{admitted-row}
 use Rattle.sheet_writer.proofs.Texts.{entryLine}
@@ -12,7 +12,7 @@ use Rattle.sheet_writer.proofs.Texts.{entryLine}
 pub record Row (G : Graph) (i a b : ℕ) : Type 0 where
   pub begins : a ≡ G .start i
   pub degree : b ≡ a + checkDegree G i
-  pub few : checkDegree G i ≤ 64
+  pub few : checkDegree G i ≤ limits .checkDegree
   pub within : b ≤ G .entries
 
 module _ {G : Graph} (ad : Admitted G) {i a b : ℕ} where
@@ -21,10 +21,6 @@ module _ {G : Graph} (ad : Admitted G) {i a b : ℕ} where
       let r = admitted-row G ad i l p q in
       let s : b ≡ G .start (suc i) = q ∙ ap (G .start) (add-one i) in
       record { begins = p; degree = omega arith; few = omega arith; within = r .2 }
-
-  -- a column is below n
-  pub column-small : (k : ℕ) {x : ℕ} → Row G i a b → a + k < b → x ≡ G .column (a + k) → x ≤ 8192
-  column-small k r l e = omega (arith, ad .within (a + k) (omega (arith, r .within)), ad .variables .1)
 
 -- the line of entry k of the row
 pub row-line : {G : Graph} {i a b x : ℕ} (k : ℕ) → Row G i a b → x ≡ G .column (a + k) → lineText (pair i x) ≡ entryLine G i k

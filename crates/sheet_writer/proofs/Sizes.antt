@@ -24,11 +24,11 @@ digits-more k w d ih h = go (ltb k 10) refl
     go true e = omega (arith, one-digit k (ltb-true k 10 e))
     go false e = let l : 10 ≤ k = ltb-false k 10 e in omega (arith, more-digits k l, ih (omega arith))
 
-four-digits : (k : ℕ) → k ≤ 8192 → length (decimal k) ≤ 4
+four-digits : (k : ℕ) → k < 10000 → length (decimal k) ≤ 4
 four-digits k h =
     digits-more k 1000 3 (digits-more (k / 10) 100 2 (digits-more (k / 10 / 10) 10 1 (λ l. omega (arith, one-digit (k / 10 / 10 / 10) l)))) (omega arith)
 
-line-short : (a b : ℕ) → a ≤ 8192 → b ≤ 8192 → length (lineText (pair a b)) ≤ 10
+line-short : (a b : ℕ) → a < 10000 → b < 10000 → length (lineText (pair a b)) ≤ 10
 line-short a b h k = omega (arith, line-long a b, four-digits a h, four-digits b k)
 
 -- lines one after the other
@@ -57,7 +57,7 @@ sheets-short G ad =
     omega (
       arith,
       sheet-long G,
-      line-short (G .variables) (G .checks) (ad .variables .1) (ad .checks .1),
+      line-short (G .variables) (G .checks) (omega (arith, ad .variables .1)) (omega (arith, ad .checks .1)),
       ap length (all-lines G),
       rows-short G ad (G .checks) (omega arith),
       ad .ends,

@@ -4,7 +4,7 @@ use mathlib.Core.List.{List, _++_}
 use Prim.Native.Nat.{ℕ}
 use lib.Dec.{leb}
 use lib.ListN.{length, drop}
-use Rattle.rules.specs.Graphs.{Graph}
+use Rattle.rules.specs.Graphs.{Graph, limits}
 use Rattle.rules.specs.Refusals.{unless, orElse}
 use Rattle.rules.specs.declared.Refusal.the-variants.{Buffer}
 use Rattle.rules.specs.declared.Judged.{Judged}
@@ -16,7 +16,7 @@ use Rattle.sheet_writer.specs.declared.Written.the-variants as Answer
 
 -- 'Write a sheet: the graph's five, then 6', where a buffer of so many bytes is lent.
 unfoldable pub writeJudged : Graph → ℕ → Judged
-writeJudged G room = orElse (graphJudged G) (unless (leb (length (sheetText G)) room) Buffer)
+writeJudged G room = orElse (graphJudged limits G) (unless (leb (length (sheetText G)) room) Buffer)
 
 -- 'The writer gives this text and its length.'
 abbrev pub writeAnswer : Judged → Graph → Written

@@ -2,7 +2,7 @@
 ghost use mathlib.Core.Path.{_≡_};
 ghost use Prim.Native.Nat.{_+_, _-_, _*_, _/_, _<_, _≤_};
 ghost use lib.ListN.{length};
-ghost use Rattle.rules.specs.Graphs.{Admitted};
+ghost use Rattle.rules.specs.Graphs.{limits, Admitted};
 ghost use Rattle.lines.specs.Numbers.{decimal};
 ghost use Rattle.lines.specs.Lines.{pair, lineText, linesText};
 ghost use Rattle.words.specs.Roles.{graphOf};
@@ -22,9 +22,9 @@ pub enum Written {
 
 // ---- the length
 
-// How many digits a number has.
+// How many digits a number has: in 64 bits, at most 20.
 fn digits(k: usize) -> usize
-    ensures { λ r. ⌜ (r ≡ length (decimal k)) × (r ≤ k + 1) ⌝ }
+    ensures { λ r. ⌜ (r ≡ length (decimal k)) × (r ≤ 20) ⌝ }
 {
     let mut left = k;
     let mut count = 1;
@@ -37,8 +37,7 @@ fn digits(k: usize) -> usize
 
 // The length of a line of two numbers.
 fn line_length(a: usize, b: usize) -> usize
-    requires { ⌜ (a ≤ 8192) × (b ≤ 8192) ⌝ }
-    ensures { λ r. ⌜ (r ≡ length (lineText (pair a b))) × (r ≤ 16388) ⌝ }
+    ensures { λ r. ⌜ (r ≡ length (lineText (pair a b))) × (r ≤ 42) ⌝ }
 {
     digits(a) + 1 + digits(b) + 1
 }
@@ -46,7 +45,7 @@ fn line_length(a: usize, b: usize) -> usize
 // The length of the lines of check i.
 fn row_length(n: usize, starts: &[u8], columns: &[u8], i: usize) -> usize
     requires { ⌜ Admitted (graphOf n (now starts) (now columns)) × (i < length (now starts) / 2 - 1) ⌝ }
-    ensures { λ r. ⌜ (r ≡ length (linesText (rowEntries (graphOf n (now (starts .entry)) (now (columns .entry))) i))) × (r ≤ 64 * 16388) ⌝ }
+    ensures { λ r. ⌜ (r ≡ length (linesText (rowEntries (graphOf n (now (starts .entry)) (now (columns .entry))) i))) × (r ≤ limits .checkDegree * 42) ⌝ }
 {
     let a = words::start(starts, i);
     let b = words::start(starts, i + 1);
@@ -62,7 +61,7 @@ fn row_length(n: usize, starts: &[u8], columns: &[u8], i: usize) -> usize
 // The length of the lines of all entries.
 fn rows_length(n: usize, starts: &[u8], columns: &[u8]) -> usize
     requires { ⌜ Admitted (graphOf n (now starts) (now columns)) ⌝ }
-    ensures { λ r. ⌜ (r ≡ length (linesText (entriesOf (graphOf n (now (starts .entry)) (now (columns .entry)))))) × (r ≤ 8192 * (64 * 16388)) ⌝ }
+    ensures { λ r. ⌜ (r ≡ length (linesText (entriesOf (graphOf n (now (starts .entry)) (now (columns .entry)))))) × (r ≤ limits .checks * (limits .checkDegree * 42)) ⌝ }
 {
     let m = starts.len() / 2 - 1;
     let mut total = 0;

@@ -4,7 +4,7 @@ use native.Mathlib.Omega.{arith}
 use borrow.Author.Needs.{needs}
 use lib.ListN.{length}
 use Rattle.lines.specs.Numbers.{decimal}
-use Rattle.lines.proofs.Putting.{one-digit, more-digits}
+use Rattle.lines.proofs.Putting.{one-digit, more-digits, word-short}
 use Rattle.sheet_writer.proofs.digits.Statement.{statement}
 use Rattle.sheet_writer.proofs.digits.Tie as tie
 
@@ -27,7 +27,7 @@ loop-again : tie.Need-loop-again Inv-loop μ-loop
 loop-again c = omega (arith, more-digits (c .before .loop .left) (omega arith))
 
 returns : tie.Need-returns Inv-loop μ-loop
-returns c = omega (arith, one-digit (c .before .loop .left) (omega arith))
+returns c = omega (arith, one-digit (c .before .loop .left) (omega arith), word-short (c .before .before .args .k) (omega arith))
 
 pub digits-spec : {M : Type 1} → statement M
 digits-spec =

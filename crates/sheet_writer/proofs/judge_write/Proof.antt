@@ -1,7 +1,7 @@
 use mathlib.Core.Path.{_≡_, sym, _∙_}
 use native.Mathlib.Omega.{arith}
 use borrow.Author.Needs.{needs}
-use Rattle.rules.specs.Graphs.{Graph}
+use Rattle.rules.specs.Graphs.{Graph, limits}
 use Rattle.rules.specs.declared.Judged.the-variants as Judgement
 use Rattle.graph.specs.Judging.{graphJudged}
 use Rattle.words.specs.Roles.{graphOf}
@@ -15,7 +15,7 @@ abbrev G : tie.Start → Graph
 G s = graphOf (s .args .n) (s .args .starts .now) (s .args .columns .now)
 
 -- the graph is not refused
-judged : (c : tie.After-enum-told) → graphJudged (G (c .before .before .before .before .before)) ≡ Judgement.Admitted
+judged : (c : tie.After-enum-told) → graphJudged limits (G (c .before .before .before .before .before)) ≡ Judgement.Admitted
 judged c = sym (c .before .before .check .ensures) ∙ c .enum-told .given .1
 
 check-requires : tie.Need-check-requires

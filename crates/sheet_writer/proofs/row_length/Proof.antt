@@ -7,13 +7,13 @@ use Rattle.rules.specs.Graphs.{Graph}
 use Rattle.words.specs.Roles.{graphOf}
 use Rattle.sheet_writer.proofs.Texts.{entryLine, row-lines}
 use Rattle.sheet_writer.proofs.Lengths.{Summed, summed-none, summed-more, summed-all}
-use Rattle.sheet_writer.proofs.Rows.{Row, row-read, column-small, row-line}
+use Rattle.sheet_writer.proofs.Rows.{Row, row-read, row-line}
 use Rattle.sheet_writer.proofs.row_length.Statement.{statement}
 use Rattle.sheet_writer.proofs.row_length.Tie as tie
 
 abbrev Inv-loop : tie.InvT-loop
 Inv-loop n starts columns i a b total₀ k₀ total k =
-    Row (graphOf n starts columns) i a b × (a + k ≤ b) × Summed (entryLine (graphOf n starts columns) i) 16388 total k
+    Row (graphOf n starts columns) i a b × (a + k ≤ b) × Summed (entryLine (graphOf n starts columns) i) 42 total k
 
 abbrev μ-loop : tie.MeasureT-loop
 μ-loop n starts columns i a b total₀ k₀ total k = b - (a + k)
@@ -47,10 +47,7 @@ column-requires : tie.Need-column-requires Inv-loop μ-loop
 column-requires c κs = search needs
 
 line-length-requires : tie.Need-line-length-requires Inv-loop μ-loop
-line-length-requires c κs =
-    let h = c .before .before .before .before .before .before .before .pre .0 in
-    let o = c .before .before .loop in
-    (omega (arith, h .checks .1), column-small h (o .k) (o .inv .0) (omega arith) (c .column .ensures .0))
+line-length-requires c κs = search needs
 
 add-total : tie.Need-add-total Inv-loop μ-loop
 add-total c = search needs

@@ -3,7 +3,7 @@ use Prim.Native.Nat.{_*_, _-_, _≤_}
 use native.Mathlib.Omega.{arith}
 use borrow.Author.Needs.{needs}
 use lib.ListN.{length}
-use Rattle.rules.specs.Graphs.{Graph}
+use Rattle.rules.specs.Graphs.{Graph, limits}
 use Rattle.words.specs.Roles.{graphOf}
 use Rattle.sheet_writer.proofs.Texts.{rowLines, all-lines}
 use Rattle.sheet_writer.proofs.Lengths.{Summed, summed-none, summed-more, summed-all}
@@ -11,7 +11,7 @@ use Rattle.sheet_writer.proofs.rows_length.Statement.{statement}
 use Rattle.sheet_writer.proofs.rows_length.Tie as tie
 
 abbrev Inv-loop : tie.InvT-loop
-Inv-loop n starts columns m total₀ i₀ total i = (i ≤ m) × Summed (rowLines (graphOf n starts columns)) (64 * 16388) total i
+Inv-loop n starts columns m total₀ i₀ total i = (i ≤ m) × Summed (rowLines (graphOf n starts columns)) (limits .checkDegree * 42) total i
 
 abbrev μ-loop : tie.MeasureT-loop
 μ-loop n starts columns m total₀ i₀ total i = m - i
