@@ -12,7 +12,7 @@ use Rattle.words.specs.Words.{bytes}
 use Rattle.words.proofs.Words.{length-bytes}
 use Rattle.run_text.specs.declared.Given.{Given}
 use Rattle.run_text.specs.Texts.{titles, settingsLine, valueTitle, pattern}
-use Rattle.run_text.specs.Reading.{RunText, refused, read, formed, valueLines, runLines, runText}
+use Rattle.run_text.specs.Reading.{RunText, refused, read, formed, valueLines, runLines, largestInput, runText}
 
 not-read : {l : ℕ} {g : Given} {v : List ℕ} → refused l ≡ read g v → ⊥
 not-read e = let z : _≡_ {A = ℕ} 0 1 = cc in omega arith
@@ -34,7 +34,7 @@ lines-long g (suc k) l done t h v e =
 
 pub run-long : (n : ℕ) (t : List ℕ) (g : Given) (v : List ℕ) → runText n t ≡ read g v → length v ≡ 4 * n
 unfolding runText runLines
-run-long n t g v e = go (leb (length t) 65536) e
+run-long n t g v e = go (leb (length t) largestInput) e
   where
     P : Given → List ℕ → Type 0
     P g v = length v ≡ 4 * n

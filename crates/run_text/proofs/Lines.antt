@@ -12,7 +12,7 @@ use Rattle.channel.specs.declared.Scaling.{Scaling}
 use Rattle.channel.specs.declared.Scaling.the-variants.{Plain, Noise}
 use Rattle.run_text.specs.declared.Given.{Given}
 use Rattle.run_text.specs.Texts.{plainTitles, noiseTitles, titles, pattern, scaling, setting, Three, three, settings, given, settingsLine, valueTitle}
-use Rattle.run_text.specs.Reading.{refused, valueLines, runLines, runText}
+use Rattle.run_text.specs.Reading.{refused, valueLines, runLines, largestInput, runText}
 
 -- ---- line 1
 
@@ -110,10 +110,10 @@ module _ (n : ℕ) (s : List ℕ) where
       unfolding runLines
       to-values e = rw (e₁, e₂, e)
 
-  pub oversized : 65536 < length s → runText n s ≡ refused 0
+  pub oversized : largestInput < length s → runText n s ≡ refused 0
   unfolding runText
-  oversized h = rw (lt-leb (length s) 65536 h)
+  oversized h = rw (lt-leb (length s) largestInput h)
 
-  pub sized : length s ≤ 65536 → runText n s ≡ runLines n s
+  pub sized : length s ≤ largestInput → runText n s ≡ runLines n s
   unfolding runText
-  sized h = rw (le-leb (length s) 65536 h)
+  sized h = rw (le-leb (length s) largestInput h)

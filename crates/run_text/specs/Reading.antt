@@ -39,9 +39,13 @@ unfoldable pub runLines : ℕ → List ℕ → RunText
 runLines n t =
     formed 1 (titles t) (λ noise t₁. formed 2 (settingsLine noise t₁) (λ g t₂. formed 3 (fixed valueTitle t₂) (λ u t₃. valueLines g n 4 [] t₃)))
 
--- '14, run text oversized (0)': 'either may have 65,536 bytes'.
+-- 'Either may have 65,536 bytes': the sheet and the run text.
+abbrev pub largestInput : ℕ
+largestInput = 65536
+
+-- '14, run text oversized (0).'
 unfoldable pub runText : ℕ → List ℕ → RunText
-runText n t = cond (leb (length t) 65536) (runLines n t) (refused 0)
+runText n t = cond (leb (length t) largestInput) (runLines n t) (refused 0)
 
 -- ---- the answer, and the lent bytes afterwards
 

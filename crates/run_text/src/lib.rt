@@ -3,6 +3,7 @@ ghost use mathlib.Core.Path.{_≡_};
 ghost use mathlib.Core.List.{[]};
 ghost use Prim.Native.Nat.{_*_, _≤_};
 ghost use lib.ListN.{length, drop};
+ghost use Rattle.rules.specs.Graphs.{limits};
 ghost use Rattle.run_text.specs.Texts.{hexDigit, hexDigits, pattern, setting, settings, scaling, titles, settingsLine};
 ghost use Rattle.run_text.specs.Reading.{valueLines, runText, ReadAs};
 ghost use Rattle.run_text.specs.Places.{WordAt, TripleAt, ScaleAt, TitlesAt, LineAt, AboveAt, ValuesAs};
@@ -302,7 +303,7 @@ fn lines_above(text: &[u8]) -> Above
 
 // The lines of n values, from a place on, into `values`.
 fn values_at(text: &[u8], from: usize, n: usize, values: &mut [u8]) -> Values
-    requires { ⌜ (from ≤ length (now text)) × (n ≤ 8192) × (4 * n ≤ length (now values)) ⌝ }
+    requires { ⌜ (from ≤ length (now text)) × (n ≤ limits .variables) × (4 * n ≤ length (now values)) ⌝ }
     ensures { λ r. ⌜ ValuesAs (λ g. valueLines g n 4 [] (drop from (now (text .entry)))) n (now (values .entry)) (now (values .exit)) r ⌝ }
 {
     let mut at = from;
@@ -322,12 +323,15 @@ fn values_at(text: &[u8], from: usize, n: usize, values: &mut [u8]) -> Values
     Values::Read
 }
 
+// 'Either may have 65,536 bytes': `largestInput` of specs/Reading.
+pub const LARGEST_INPUT: usize = 65536;
+
 // The run text for n values: the settings, with the values in memory, or the line that is refused and the memory as it was.
 pub fn read(n: usize, text: &[u8], values: &mut [u8]) -> Run
-    requires { ⌜ (n ≤ 8192) × (4 * n ≤ length (now values)) ⌝ }
+    requires { ⌜ (n ≤ limits .variables) × (4 * n ≤ length (now values)) ⌝ }
     ensures { λ r. ⌜ ReadAs (runText n (now (text .entry))) r (now (values .entry)) (now (values .exit)) ⌝ }
 {
-    if 65536 < text.len() {
+    if LARGEST_INPUT < text.len() {
         return Run::Refused(0);
     }
     let a = lines_above(text);
@@ -336,7 +340,7 @@ pub fn read(n: usize, text: &[u8], values: &mut [u8]) -> Run
             return Run::Refused(l);
         }
         Above::Of(given, at) => {
-            let mut own = [0u8; 32768];
+            let mut own = [0u8; 4 * rules::MOST_VARIABLES];
             let judged = values_at(text, at, n, &mut own);
             if let Values::Refused(l) = judged {
                 return Run::Refused(l);
