@@ -6,6 +6,7 @@ use native.Mathlib.Omega.{arith}
 use borrow.Author.Tests.{eq-eqb, ne-eqb, eqb-true, leb-true}
 use lib.Dec.{eqb, leb}
 use lib.ListN.{length}
+use Rattle.rules.specs.Graphs.{limits}
 use Rattle.rules.specs.Refusals.{unless, orElse}
 use Rattle.rules.specs.declared.Judged.{Judged}
 use Rattle.rules.specs.declared.Judged.the-variants.{Admitted, Refused}
@@ -25,11 +26,11 @@ use Rattle.decoder.specs.Steps.{Ready, RunsInto}
 use Rattle.decoder.specs.declared.Decoded.the-variants as Answers
 
 module _ (F : Frame) (m : Room) where
-  pub graph-refused : {r : Refusal} → graphJudged (graph F) ≡ Refused r → decodeJudged F m ≡ Refused r
+  pub graph-refused : {r : Refusal} → graphJudged limits (graph F) ≡ Refused r → decodeJudged F m ≡ Refused r
   unfolding decodeJudged frameJudged
   graph-refused a = rw a
 
-  module _ (a : graphJudged (graph F) ≡ Admitted) where
+  module _ (a : graphJudged limits (graph F) ≡ Admitted) where
     pub length-refused : (length (F .values) / 4 ≡ F .variables → ⊥) → decodeJudged F m ≡ Refused (Length (length (F .values) / 4))
     unfolding decodeJudged frameJudged
     length-refused h = rw (a, ne-eqb (length (F .values) / 4) (F .variables) h)
@@ -85,7 +86,7 @@ enough-told n E m h =
 -- ---- what an accepted frame tells
 
 pub record Told (F : Frame) : Type 0 where
-  pub graph : graphJudged (graph F) ≡ Admitted
+  pub graph : graphJudged limits (graph F) ≡ Admitted
   pub count : length (F .values) / 4 ≡ F .variables
   pub settings : settingsJudged (F .scaling) (F .channel) (F .message) (F .phiS) (F .phiA) (F .phi0) (F .limit) ≡ Admitted
   pub values : valuesJudged (F .values) ≡ Admitted
@@ -93,7 +94,7 @@ pub record Told (F : Frame) : Type 0 where
 pub frame-told : (F : Frame) → frameJudged F ≡ Admitted → Told F
 unfolding frameJudged
 frame-told F h = record {
-  graph = orElse-left (graphJudged (graph F)) rest h;
+  graph = orElse-left (graphJudged limits (graph F)) rest h;
   count = eqb-true (length (F .values) / 4) (F .variables) (unless-true (eqb (length (F .values) / 4) (F .variables)) (Length (length (F .values) / 4)) (orElse-left counted others after));
   settings = orElse-left s v (orElse-right counted others after);
   values = orElse-right s v (orElse-right counted others after);
@@ -115,7 +116,7 @@ frame-told F h = record {
     rest = orElse counted others
 
     after : rest ≡ Admitted
-    after = orElse-right (graphJudged (graph F)) rest h
+    after = orElse-right (graphJudged limits (graph F)) rest h
 
 pub memory-told : (F : Frame) (m : Room) → decodeJudged F m ≡ Admitted → (frameJudged F ≡ Admitted) × (enough (F .variables) (graph F .entries) m ≡ true)
 unfolding decodeJudged

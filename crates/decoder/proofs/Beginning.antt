@@ -12,7 +12,7 @@ use mir.Syntax.{w32}
 use mir.Val.{ofZ}
 use Rattle.rules.specs.Ranges.{joined, count, one, tabulate}
 use Rattle.rules.specs.Levels.{Level, byte, levelOf, plusZero}
-use Rattle.rules.specs.Graphs.{Graph, Admitted, variableDegree}
+use Rattle.rules.specs.Graphs.{Graph, limits, Admitted, variableDegree}
 use Rattle.rules.specs.Nodes.{Offsets, firstMessage, firstBit}
 use Rattle.rules.specs.Sequence.{signPreserving, begun, final}
 use Rattle.rules.specs.declared.Report.{Report}
@@ -66,8 +66,8 @@ module _ (n : ℕ) (starts columns : List ℕ) (Nq : ℕ) (φ : Offsets) {values
       ∙ level-bytes .0 (channelLevel Nch factor values v) (omega (arith, magnitudes-within Nch factor (valueAt values v)))
 
 -- memory for the run, once the degrees are counted
-pub ready-sized : (n : ℕ) (starts columns : List ℕ) {y d q C S b : List ℕ} → Admitted (graphOf n starts columns) → length d ≡ 8192
-    → ((v : ℕ) → v < 8192 → getD d v 0 ≡ count (λ e. eqb (columnAt columns e) v) 0 (length columns / 2))
+pub ready-sized : (n : ℕ) (starts columns : List ℕ) {y d q C S b : List ℕ} → Admitted (graphOf n starts columns) → length d ≡ limits .variables
+    → ((v : ℕ) → v < limits .variables → getD d v 0 ≡ count (λ e. eqb (columnAt columns e) v) 0 (length columns / 2))
     → length y ≡ n → length q ≡ length columns / 2 → length C ≡ length columns / 2 → length S ≡ 4 * n → length b ≡ n → Sized (graphOf n starts columns) y d q C S b
 unfolding variableDegree
 ready-sized n starts columns ok long degrees ly lq lC lS lb = record {

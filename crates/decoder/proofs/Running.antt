@@ -15,7 +15,7 @@ use mir.Syntax.{w32}
 use mir.Val.{ofZ}
 use Rattle.rules.specs.Ranges.{one, tabulate}
 use Rattle.rules.specs.Levels.{Level, byte, levelOf, plusZero, largest}
-use Rattle.rules.specs.Graphs.{Graph, Admitted, variableDegree, unsatisfied}
+use Rattle.rules.specs.Graphs.{Graph, limits, Admitted, variableDegree, unsatisfied}
 use Rattle.rules.specs.Nodes.{Offsets, fromCheck, contribution, posterior, bitOf, outgoingSum, outgoingMagnitude, fromVariable}
 use Rattle.rules.specs.Sequence.{Scheme, signPreserving, levelAt, bitAt, begun, sentIn, sent, iterated, next, state, unsatisfiedIn, stop, final, report}
 use Rattle.rules.specs.declared.Report.{Report}
@@ -78,10 +78,10 @@ module _ (G : Graph) (ok : Admitted G) (Nq : ℕ) (φ : Offsets) (small : Nq < 8
   received-levels : (t : ℕ) → levelIn (map byte (state G R t .checkMessages)) ≡ levelAt (state G R t .checkMessages)
   received-levels t = levels-of (state G R t .checkMessages) (λ e l. omega (arith, messages-within G ok Nq φ (levelIn y) t e (omega (arith, received-length t)) .1))
 
-  sums-small : (t v : ℕ) → v < G .variables → natAbs (getD (state G R t .sums) v (pos 0)) ≤ 8416
+  sums-small : (t v : ℕ) → v < G .variables → natAbs (getD (state G R t .sums) v (pos 0)) ≤ 256 + 255 * limits .variableDegree
   sums-small t v l =
-      let d : variableDegree G v ≤ 32 = ok .variableDegrees v l .1 in
-      let s : variableDegree G v * (2 * Nq + 1) ≤ 32 * (2 * Nq + 1) = mul-le-mul-right (2 * Nq + 1) d in
+      let d : variableDegree G v ≤ limits .variableDegree = ok .variableDegrees v l .1 in
+      let s : variableDegree G v * (2 * Nq + 1) ≤ limits .variableDegree * (2 * Nq + 1) = mul-le-mul-right (2 * Nq + 1) d in
       omega (arith, sums-bounded G ok 127 Nq φ (levelIn y) (λ v _. magnitude-small (getD y v 0)) t v l, extra-small (variableDegree G v))
 
   -- ---- from one iteration to the next

@@ -11,7 +11,7 @@ use mir.Syntax.{w32}
 use mir.Val.{ofZ}
 use Rattle.rules.specs.Ranges.{fold, one, tabulate}
 use Rattle.rules.specs.Levels.{byte}
-use Rattle.rules.specs.Graphs.{Admitted, variableDegree, checkOf}
+use Rattle.rules.specs.Graphs.{limits, Admitted, variableDegree, checkOf}
 use Rattle.rules.specs.Nodes.{others, fromCheck, contribution, odd, extra, channelPart, share, posterior, bitOf}
 use Rattle.rules.proofs.Ranges.{tabulate-ext}
 use Rattle.rules.proofs.Bounds.{abs-contribution, posterior-bound}
@@ -47,9 +47,9 @@ module _ (n : ℕ) (starts columns : List ℕ) (ok : Admitted (graphOf n starts 
   }
 
   -- sums of levels and messages in bytes are small
-  pub posterior-small : (y C : List ℕ) (v : ℕ) → v < n → natAbs (posterior (graphOf n starts columns) (levelIn y) (levelIn C) v) ≤ 8416
+  pub posterior-small : (y C : List ℕ) (v : ℕ) → v < n → natAbs (posterior (graphOf n starts columns) (levelIn y) (levelIn C) v) ≤ 256 + 255 * limits .variableDegree
   posterior-small y C v l =
-      let d : variableDegree (graphOf n starts columns) v ≤ 32 = ok .variableDegrees v l .1 in
+      let d : variableDegree (graphOf n starts columns) v ≤ limits .variableDegree = ok .variableDegrees v l .1 in
       omega (
         arith,
         posterior-bound (graphOf n starts columns) (levelIn C) 127 (λ k _. magnitude-small (getD C k 0)) v 127 (levelIn y) (magnitude-small (getD y v 0)),

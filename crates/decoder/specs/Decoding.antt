@@ -8,7 +8,7 @@ use lib.IntN.{pos}
 use lib.ListN.{length, getD, drop}
 use Rattle.rules.specs.Ranges.{one, tabulate}
 use Rattle.rules.specs.Levels.{Level, byte, largest}
-use Rattle.rules.specs.Graphs.{Graph}
+use Rattle.rules.specs.Graphs.{Graph, limits}
 use Rattle.rules.specs.Nodes.{Offsets}
 use Rattle.rules.specs.Sequence.{Scheme, State, signPreserving, final, report}
 use Rattle.rules.specs.Refusals.{unless, orElse}
@@ -98,7 +98,7 @@ module _ (F : Frame) where
   -- variance not finite and above zero; 11, factor infinite or zero; 12, a value infinite or NaN (first index).'
   unfoldable pub frameJudged : Judged
   frameJudged =
-      orElse (graphJudged graph)
+      orElse (graphJudged limits graph)
       (orElse (unless (eqb (length (F .values) / 4) (F .variables)) (Length (length (F .values) / 4)))
       (orElse (settingsJudged (F .scaling) (F .channel) (F .message) (F .phiS) (F .phiA) (F .phi0) (F .limit))
       (valuesJudged (F .values))))

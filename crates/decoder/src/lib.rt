@@ -4,6 +4,7 @@ ghost use mathlib.Core.Bool.{true};
 ghost use Prim.Native.Nat.{_*_, _/_, _≤_};
 ghost use lib.ListN.{length};
 ghost use Rattle.rules.specs.Levels.{largest};
+ghost use Rattle.rules.specs.Graphs.{limits};
 ghost use Rattle.rules.specs.Sequence.{signPreserving, begun};
 ghost use Rattle.channel.specs.Theorems.{Admissible};
 ghost use Rattle.channel.specs.Settings.{settings, checked};
@@ -112,7 +113,7 @@ fn long_enough(
     sums: usize,
     bits: usize,
 ) -> bool
-    requires { ⌜ n ≤ 8192 ⌝ }
+    requires { ⌜ n ≤ limits .variables ⌝ }
     ensures { λ r. ⌜ r ≡ enough n e (room levels «variable_messages» «check_messages» sums bits) ⌝ }
 {
     (n <= levels)
@@ -201,7 +202,7 @@ fn decode_exactly(
     requires { ⌜ exact n (now columns) (room (length (now levels)) (length (now «variable_messages»)) (length (now «check_messages»)) (length (now sums)) (length (now bits))) ⌝ }
     ensures { λ r. ⌜ RunsFrom s n (now (starts .entry)) (now (columns .entry)) (now (values .entry)) r (now (levels .exit)) (now («variable_messages» .exit)) (now («check_messages» .exit)) (now (sums .exit)) (now (bits .exit)) ⌝ }
 {
-    let mut degrees = [0u16; 8192];
+    let mut degrees = [0u16; rules::MOST_VARIABLES];
     graph::count_degrees(columns, &mut degrees);
     let channel_most = largest(s.channel);
     let message_most = largest(s.message);

@@ -4,6 +4,7 @@ use Prim.Native.Nat.{ℕ}
 use lib.ListN.{getD, getD-replicate, length-replicate}
 use Rattle.rules.specs.Ranges.{tabulate}
 use Rattle.rules.specs.Levels.{byte}
+use Rattle.rules.specs.Graphs.{limits}
 use Rattle.words.specs.Roles.{graphOf}
 use Rattle.graph.proofs.Loops.{tallied-degree}
 use Rattle.channel.proofs.Magnitudes.{largest-within}
@@ -49,7 +50,7 @@ run-requires c κs =
     let w = begins-as (c .before .before .before .before .before .before .before .before .before .before .before .before .before .before .before .before .before .before .before .before .before .before .before .largest .ensures) (c .before .before .before .before .before .before .before .before .before .before .before .before .before .before .before .before .before .before .before .before .before .before .largest2 .ensures) (c .before .before .before .before .before .before .before .before .before .before .before .before .before .before .before .before .begin .ensures) in (
       (
         z .settings,
-        ready-sized (a .n) (a .starts .now) (a .columns .now) (z .admitted) (c .before .before .before .before .before .before .before .before .before .before .before .before .before .before .before .before .before .before .before .before .before .before .before .before .before .count-degrees .kept .1 .0 ∙ length-replicate {A = ℕ} 8192 0) (λ v l. ap (λ l. getD l v 0) (c .before .before .before .before .before .before .before .before .before .before .before .before .before .before .before .before .before .before .before .before .before .before .before .before .before .count-degrees .ensures) ∙ tallied-degree _ _ _ v (omega (arith, z .admitted .entries)) l (getD-replicate 8192 v 0 0 l))
+        ready-sized (a .n) (a .starts .now) (a .columns .now) (z .admitted) (c .before .before .before .before .before .before .before .before .before .before .before .before .before .before .before .before .before .before .before .before .before .before .before .before .before .count-degrees .kept .1 .0 ∙ length-replicate {A = ℕ} (limits .variables) 0) (λ v l. ap (λ l. getD l v 0) (c .before .before .before .before .before .before .before .before .before .before .before .before .before .before .before .before .before .before .before .before .before .before .before .before .before .count-degrees .ensures) ∙ tallied-degree _ _ _ v (omega (arith, z .admitted .entries)) l (getD-replicate (limits .variables) v 0 0 l))
             (begun-length (a .n) (a .starts .now) (a .columns .now) _ (offsetsIn (a .s)) w (z .count))
             (c .before .before .before .before .before .before .before .before .before .before .before .before .before .before .before .before .begin .kept .1 .1 .1 .1 .1 .1 .0 ∙ c .before .before .before .before .before .before .before .before .before .before .before .before .before .before .before .before .before .before .before .before .before .before .before .before .before .before .before .before .before .before .before .before .before .before .before .pre .1 .1) (c .before .before .before .before .before .before .before .before .before .before .before .before .before .before .before .before .begin .kept .1 .1 .1 .1 .1 .1 .1 .0 ∙ c .before .before .before .before .before .before .before .before .before .before .before .before .before .before .before .before .before .before .before .before .before .before .before .before .before .before .before .before .before .before .before .before .before .before .before .pre .1 .2) (c .before .before .before .before .before .before .before .before .before .before .before .before .before .before .before .before .begin .kept .1 .1 .1 .1 .1 .1 .1 .1 .0 ∙ c .before .before .before .before .before .before .before .before .before .before .before .before .before .before .before .before .before .before .before .before .before .before .before .before .before .before .before .before .before .before .before .before .before .before .before .pre .1 .3) (c .before .before .before .before .before .before .before .before .before .before .before .before .before .before .before .before .begin .kept .1 .1 .1 .1 .1 .1 .1 .1 .1 .0 ∙ c .before .before .before .before .before .before .before .before .before .before .before .before .before .before .before .before .before .before .before .before .before .before .before .before .before .before .before .before .before .before .before .before .before .before .before .pre .1 .4),
       ),
