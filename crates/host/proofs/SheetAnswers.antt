@@ -3,7 +3,7 @@ use mathlib.Core.Path.{_≡_, refl, ap, _∙_}
 use mathlib.Core.List.{List}
 use Prim.Native.Nat.{ℕ}
 use native.Mathlib.Omega.{arith}
-use Rattle.rules.specs.Graphs.{Graph}
+use Rattle.rules.specs.Graphs.{Graph, limits}
 use Rattle.rules.specs.declared.Judged.{Judged}
 use Rattle.rules.specs.declared.Judged.the-variants.{Admitted, Refused}
 use Rattle.sheet.specs.Reading.{Reading, turned, graph, sheetRead, answerOf, ReadAs}
@@ -16,13 +16,13 @@ use Rattle.sheet_writer.proofs.Sizes.{sheets-short}
 use Rattle.host.specs.Packing.{packRead, packWritten, HostReads, HostWrites, SmallRead, SmallWritten}
 
 -- a text that is accepted gives an admitted graph
-pub read-small : (t : List ℕ) (s c : ℕ) → SmallRead (answerOf (sheetRead t s c))
-read-small t s c = go (sheetRead t s c) refl
+pub read-small : (t : List ℕ) (s c : ℕ) → SmallRead (answerOf (sheetRead limits t s c))
+read-small t s c = go (sheetRead limits t s c) refl
   where
-    go : (x : Reading) → sheetRead t s c ≡ x → SmallRead (answerOf x)
+    go : (x : Reading) → sheetRead limits t s c ≡ x → SmallRead (answerOf x)
     go (turned r) e = omega arith
     go (graph G) e =
-        let a = texts-and-graphs .accepted t s c G e .0 in
+        let a = texts-and-graphs .accepted limits t s c G e .0 in
         (a .variables .1, a .checks .1, a .entries)
 
 -- the text of an admitted graph is short

@@ -2,7 +2,7 @@
 use mathlib.Core.Path.{_≡_, ap, _∙_, subst}
 use Prim.Native.Nat.{ℕ, _≤_}
 use native.Mathlib.Omega.{arith}
-use Rattle.rules.specs.Graphs.{unsatisfied, oddCheck}
+use Rattle.rules.specs.Graphs.{limits, unsatisfied, oddCheck}
 use Rattle.rules.specs.Sequence.{bitAt, state, unsatisfiedIn, stop, report}
 use Rattle.rules.specs.declared.Judged.{Judged}
 use Rattle.rules.specs.declared.Judged.the-variants.{Admitted, Refused}
@@ -19,7 +19,7 @@ use Rattle.decoder.specs.Decoding.{Frame, Memory, Room, Decodes, graph, scheme,
 use Rattle.decoder.proofs.Accepting.{frame-told, memory-told, settingsFor}
 use Rattle.host.specs.Packing.{Small, verdictOf, packDecoded, HostDecodes}
 
-unsatisfied-small : (F : Frame) (t : ℕ) → frameJudged F ≡ Admitted → unsatisfiedIn (graph F) (scheme F) t ≤ 8192
+unsatisfied-small : (F : Frame) (t : ℕ) → frameJudged F ≡ Admitted → unsatisfiedIn (graph F) (scheme F) t ≤ limits .checks
 unfolding unsatisfiedIn unsatisfied
 unsatisfied-small F t h =
     omega (arith, count-le (oddCheck (graph F) (bitAt (state (graph F) (scheme F) t .bits))) 0 (graph F .checks), graph-admitted (graph F) (frame-told F h .graph) .checks)

@@ -5,7 +5,7 @@ use mathlib.Core.List.{List}
 use Prim.Native.Nat.{ℕ, _+_, _*_, _≤_}
 use lib.Dec.{eqb}
 use lib.Ieee.{Float, binary32, ofBits}
-use Rattle.rules.specs.Graphs.{Graph}
+use Rattle.rules.specs.Graphs.{Graph, limits}
 use Rattle.rules.specs.Refusals.{paper}
 use Rattle.rules.specs.declared.Judged.{Judged}
 use Rattle.rules.specs.declared.Judged.the-variants as Judgement
@@ -74,13 +74,13 @@ pub record HostWrites (j : Judged) (G : Graph) (old now : List ℕ) (r : ℕ) : 
 
 abbrev pub Small : Decoded → Type 0
 Small (Answer.Refused r) = 0 ≤ 0
-Small (Answer.Ran r) = (r .iterations ≤ 255) × (r .unsatisfied ≤ 8192)
+Small (Answer.Ran r) = (r .iterations ≤ 255) × (r .unsatisfied ≤ limits .checks)
 
 abbrev pub SmallRead : Sheet → Type 0
 SmallRead (Reads.Refused r) = 0 ≤ 0
-SmallRead (Reads.Read k) = (k .variables ≤ 8192) × (k .checks ≤ 8192) × (k .entries ≤ 32768)
+SmallRead (Reads.Read k) = (k .variables ≤ limits .variables) × (k .checks ≤ limits .checks) × (k .entries ≤ limits .entries)
 
--- 42 + 10 × 32,768 bytes, as SheetsShort has it.
+-- As SheetsShort has it.
 abbrev pub SmallWritten : Written → Type 0
 SmallWritten (Writes.Refused r) = 0 ≤ 0
-SmallWritten (Writes.Length size) = size ≤ 327722
+SmallWritten (Writes.Length size) = size ≤ 42 + 10 * limits .entries

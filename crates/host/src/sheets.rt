@@ -1,6 +1,7 @@
 // The entries for code sheets.
 ghost use mathlib.Core.Path.{_≡_};
 ghost use lib.ListN.{length};
+ghost use Rattle.rules.specs.Graphs.{limits};
 ghost use Rattle.words.specs.Roles.{graphOf};
 ghost use Rattle.sheet.specs.Reading.{sheetRead, readJudged};
 ghost use Rattle.sheet_writer.specs.Writing.{writeJudged};
@@ -57,7 +58,7 @@ fn pack_written(w: Written) -> u64
 // Reads a sheet into the lists of its graph.
 #[no_mangle]
 pub extern "C" fn frame_read_sheet(text: &[u8], starts: &mut [u8], columns: &mut [u8]) -> u64
-    ensures { λ r. ⌜ HostReads (sheetRead (now (text .entry)) (length (now (starts .entry))) (length (now (columns .entry)))) (now (starts .entry)) (now (starts .exit)) (now (columns .entry)) (now (columns .exit)) r ⌝ }
+    ensures { λ r. ⌜ HostReads (sheetRead limits (now (text .entry)) (length (now (starts .entry))) (length (now (columns .entry)))) (now (starts .entry)) (now (starts .exit)) (now (columns .entry)) (now (columns .exit)) r ⌝ }
 {
     let s = sheet::read(text, starts, columns);
     pack_read(s)
@@ -66,7 +67,7 @@ pub extern "C" fn frame_read_sheet(text: &[u8], starts: &mut [u8], columns: &mut
 // The place of what `frame_read_sheet` refuses for lists of these lengths, 0 where it refuses nothing.
 #[no_mangle]
 pub extern "C" fn frame_read_sheet_place(text: &[u8], starts: usize, columns: usize) -> usize
-    ensures { λ r. ⌜ r ≡ placeOf (readJudged (sheetRead (now (text .entry)) starts columns)) ⌝ }
+    ensures { λ r. ⌜ r ≡ placeOf (readJudged (sheetRead limits (now (text .entry)) starts columns)) ⌝ }
 {
     let j = sheet::judge_read(text, starts, columns);
     place_of(j)
