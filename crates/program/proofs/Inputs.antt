@@ -6,7 +6,7 @@ use native.Mathlib.Omega.{arith}
 use borrow.Author.Tests.{le-leb, lt-leb}
 use lib.ListN.{length, take, drop}
 use lib.Seq.{take-at}
-use Rattle.rules.specs.Graphs.{Graph, Admitted}
+use Rattle.rules.specs.Graphs.{Graph, limits, Admitted}
 use Rattle.rules.specs.declared.Refusal.{Refusal}
 use Rattle.rules.specs.declared.Refusal.the-variants as Refusals
 use Rattle.words.specs.Words.{table}
@@ -22,10 +22,10 @@ use Rattle.run_text.specs.declared.Given.{Given}
 use Rattle.run_text.specs.declared.Run.{Run}
 use Rattle.run_text.specs.declared.Run.the-variants as Runs
 use Rattle.run_text.specs.Reading as Run
-use Rattle.run_text.specs.Reading.{RunText, runText}
+use Rattle.run_text.specs.Reading.{RunText, largestInput, runText}
 use Rattle.run_text.proofs.Lengths.{run-long}
 use Rattle.printing.specs.Texts.{refusalText, longest, Prints}
-use Rattle.program.specs.Answering.{frameText, frameOf, afterRun, afterSheet, programText, Answers}
+use Rattle.program.specs.Answering.{frameText, frameOf, afterRun, afterSheet, sheetGiven, programText, Answers}
 
 -- ---- the run text
 
@@ -52,16 +52,16 @@ module _ (n : ℕ) (s starts columns : List ℕ) {r : Run} {old now : List ℕ} 
 
 -- the counts and the lists of the graph that was read
 pub record GraphIn (t : List ℕ) (k : Counts) (starts columns : List ℕ) : Type 0 where
-  pub variables : k .variables ≤ 8192
-  pub checks : k .checks ≤ 8192
-  pub entries : k .entries ≤ 32768
+  pub variables : k .variables ≤ limits .variables
+  pub checks : k .checks ≤ limits .checks
+  pub entries : k .entries ≤ limits .entries
   pub text : (run : List ℕ) → afterRun (k .variables) (take (2 * (k .checks + 1)) starts) (take (2 * k .entries) columns) (runText (k .variables) run)
-      ≡ afterSheet (sheetRead t 16386 65536) run
+      ≡ afterSheet (sheetGiven t) run
 
-graph-in : (t : List ℕ) (G : Graph) (st co : List ℕ) → sheetRead t 16386 65536 ≡ Sheet.graph G
+graph-in : (t : List ℕ) (G : Graph) (st co : List ℕ) → sheetGiven t ≡ Sheet.graph G
     → GraphIn t (record { variables = G .variables; checks = G .checks; entries = G .entries }) (Sheet.startsOf (Sheet.graph G) st) (Sheet.columnsOf (Sheet.graph G) co)
 graph-in t G st co e =
-    let a : Admitted G = texts-and-graphs .accepted t 16386 65536 G e .0 in
+    let a : Admitted G = texts-and-graphs .accepted limits t (2 * suc (limits .checks)) (2 * limits .entries) G e .0 in
     let s : take (2 * (G .checks + 1)) (table 2 (G .start) (suc (G .checks)) ++ drop (2 * suc (G .checks)) st) ≡ table 2 (G .start) (suc (G .checks))
     = take-at (table 2 (G .start) (suc (G .checks))) (drop (2 * suc (G .checks)) st) (2 * (G .checks + 1)) (length-table 2 (G .start) (suc (G .checks)) ∙ omega arith) in
     let c : take (2 * G .entries) (table 2 (G .column) (G .entries) ++ drop (2 * G .entries) co) ≡ table 2 (G .column) (G .entries)
@@ -75,22 +75,22 @@ graph-in t G st co e =
           ∙ sym (ap (λ (x : Reading). afterSheet x run) e);
     }
 
-module _ (t : List ℕ) {r : Sheet} {st st′ co co′ : List ℕ} (w : Sheet.ReadAs (sheetRead t (length st) (length co)) r st st′ co co′)
-    (ls : length st ≡ 16386) (lc : length co ≡ 65536) where
-  read-as : Sheet.ReadAs (sheetRead t 16386 65536) r st st′ co co′
-  read-as = subst (λ (x : Reading). Sheet.ReadAs x r st st′ co co′) (ap₂ (sheetRead t) ls lc) w
+module _ (t : List ℕ) {r : Sheet} {st st′ co co′ : List ℕ} (w : Sheet.ReadAs (sheetRead limits t (length st) (length co)) r st st′ co co′)
+    (ls : length st ≡ 2 * suc (limits .checks)) (lc : length co ≡ 2 * limits .entries) where
+  read-as : Sheet.ReadAs (sheetGiven t) r st st′ co co′
+  read-as = subst (λ (x : Reading). Sheet.ReadAs x r st st′ co co′) (ap₂ (sheetRead limits t) ls lc) w
 
-  pub sheet-refused : {x : Refusal} → r ≡ Sheets.Refused x → (run : List ℕ) → refusalText x ≡ afterSheet (sheetRead t 16386 65536) run
-  sheet-refused {x} e run = go (sheetRead t 16386 65536) (sym (read-as .answer) ∙ e)
+  pub sheet-refused : {x : Refusal} → r ≡ Sheets.Refused x → (run : List ℕ) → refusalText x ≡ afterSheet (sheetGiven t) run
+  sheet-refused {x} e run = go (sheetGiven t) (sym (read-as .answer) ∙ e)
     where
       go : (y : Reading) → Sheet.answerOf y ≡ Sheets.Refused x → refusalText x ≡ afterSheet y run
       go (Sheet.turned s) q = let u : x ≡ s = cc in ap refusalText u
       go (Sheet.graph G) q = let z : _≡_ {A = ℕ} 0 1 = cc in absurd (omega arith)
 
   pub sheet-graph : {k : Counts} → r ≡ Sheets.Read k → GraphIn t k st′ co′
-  sheet-graph {k} e = go (sheetRead t 16386 65536) refl (sym (read-as .answer) ∙ e) (read-as .starts) (read-as .columns)
+  sheet-graph {k} e = go (sheetGiven t) refl (sym (read-as .answer) ∙ e) (read-as .starts) (read-as .columns)
     where
-      go : (y : Reading) → sheetRead t 16386 65536 ≡ y → Sheet.answerOf y ≡ Sheets.Read k → st′ ≡ Sheet.startsOf y st → co′ ≡ Sheet.columnsOf y co
+      go : (y : Reading) → sheetGiven t ≡ y → Sheet.answerOf y ≡ Sheets.Read k → st′ ≡ Sheet.startsOf y st → co′ ≡ Sheet.columnsOf y co
           → GraphIn t k st′ co′
       go (Sheet.turned s) f q a b = let z : _≡_ {A = ℕ} 0 1 = cc in absurd (omega arith)
       go (Sheet.graph G) f q a b =
@@ -103,13 +103,13 @@ module _ (t : List ℕ) {r : Sheet} {st st′ co co′ : List ℕ} (w : Sheet.Re
 -- ---- the whole answer
 
 module _ (sheet run : List ℕ) where
-  pub program-large : 65536 < length sheet → refusalText (Refusals.Count 0) ≡ programText sheet run
+  pub program-large : largestInput < length sheet → refusalText (Refusals.Count 0) ≡ programText sheet run
   unfolding programText
-  program-large h = sym (rw (lt-leb (length sheet) 65536 h))
+  program-large h = sym (rw (lt-leb (length sheet) largestInput h))
 
-  pub program-small : length sheet ≤ 65536 → afterSheet (sheetRead sheet 16386 65536) run ≡ programText sheet run
+  pub program-small : length sheet ≤ largestInput → afterSheet (sheetGiven sheet) run ≡ programText sheet run
   unfolding programText
-  program-small h = sym (rw (le-leb (length sheet) 65536 h))
+  program-small h = sym (rw (le-leb (length sheet) largestInput h))
 
   pub answer-none : {old : List ℕ} → length old < longest → Answers sheet run old old 0
   answer-none {old} h = record { text = []; is = sym (rw (lt-leb longest (length old) h)); holds = refl; long = refl }

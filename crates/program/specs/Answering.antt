@@ -2,10 +2,11 @@
 use mathlib.Core.Path.{_≡_}
 use mathlib.Core.Bool.{cond}
 use mathlib.Core.List.{List, [], _++_, map}
-use Prim.Native.Nat.{ℕ, suc}
+use Prim.Native.Nat.{ℕ, suc, _*_}
 use lib.Dec.{leb}
 use lib.ListN.{length, drop}
 use Rattle.rules.specs.Ranges.{one}
+use Rattle.rules.specs.Graphs.{limits}
 use Rattle.rules.specs.Sequence.{final, report}
 use Rattle.rules.specs.declared.Refusal.the-variants.{Count, RunText}
 use Rattle.rules.specs.declared.Judged.{Judged}
@@ -16,7 +17,7 @@ use Rattle.decoder.specs.Frames.{frame}
 use Rattle.sheet.specs.Reading as Sheet
 use Rattle.sheet.specs.Reading.{sheetRead}
 use Rattle.run_text.specs.Reading as Run
-use Rattle.run_text.specs.Reading.{runText}
+use Rattle.run_text.specs.Reading.{largestInput, runText}
 use Rattle.run_text.specs.declared.Given.{Given}
 use Rattle.printing.specs.Texts.{reportText, refusalText, longest}
 
@@ -44,9 +45,13 @@ afterSheet (Sheet.turned r) run = refusalText r
 afterSheet (Sheet.graph G) run =
     afterRun (G .variables) (table 2 (G .start) (suc (G .checks))) (table 2 (G .column) (G .entries)) (runText (G .variables) run)
 
--- '2 for an oversized file': 'either may have 65,536 bytes'. 16,386 and 65,536 bytes hold the lists of every admitted graph.
+-- What the sheet gives, into lists that hold those of every admitted graph.
+abbrev pub sheetGiven : List ℕ → Sheet.Reading
+sheetGiven sheet = sheetRead limits sheet (2 * suc (limits .checks)) (2 * limits .entries)
+
+-- '2 for an oversized file.'
 unfoldable pub programText : List ℕ → List ℕ → List ℕ
-programText sheet run = cond (leb (length sheet) 65536) (afterSheet (sheetRead sheet 16386 65536) run) (refusalText (Count 0))
+programText sheet run = cond (leb (length sheet) largestInput) (afterSheet (sheetGiven sheet) run) (refusalText (Count 0))
 
 -- ---- the text in lent memory
 

@@ -1,10 +1,10 @@
 // The program's whole answer, as a function of the bytes of the sheet and of the run text.
 ghost use Prim.Native.Nat.{_/_, _≤_};
 ghost use lib.ListN.{length};
+ghost use Rattle.rules.specs.Graphs.{limits};
 ghost use Rattle.run_text.specs.Reading.{runText};
-ghost use Rattle.sheet.specs.Reading.{sheetRead};
 ghost use Rattle.printing.specs.Texts.{longest, Prints};
-ghost use Rattle.program.specs.Answering.{frameText, frameOf, afterRun, afterSheet, Answers};
+ghost use Rattle.program.specs.Answering.{frameText, frameOf, afterRun, afterSheet, sheetGiven, Answers};
 use decoder::Decoded;
 use printing::put_refusal;
 use printing::put_report;
@@ -22,14 +22,14 @@ fn decode_answer(
     g: Given,
     out: &mut [u8],
 ) -> usize
-    requires { ⌜ (n ≤ 8192) × (length (now columns) / 2 ≤ 32768) × (longest ≤ length (now out)) ⌝ }
+    requires { ⌜ (n ≤ limits .variables) × (length (now columns) / 2 ≤ limits .entries) × (longest ≤ length (now out)) ⌝ }
     ensures { λ r. ⌜ Prints longest (frameText (frameOf n (now (starts .entry)) (now (columns .entry)) g (now (values .entry)))) (now (out .entry)) (now (out .exit)) r ⌝ }
 {
-    let mut levels = [0u8; 8192];
-    let mut variable_messages = [0u8; 32768];
-    let mut check_messages = [0u8; 32768];
-    let mut sums = [0u8; 32768];
-    let mut bits = [0u8; 8192];
+    let mut levels = [0u8; rules::MOST_VARIABLES];
+    let mut variable_messages = [0u8; rules::MOST_ENTRIES];
+    let mut check_messages = [0u8; rules::MOST_ENTRIES];
+    let mut sums = [0u8; 4 * rules::MOST_VARIABLES];
+    let mut bits = [0u8; rules::MOST_VARIABLES];
     let scaling = g.scaling;
     let d = decoder::decode(
         n,
@@ -57,10 +57,10 @@ fn decode_answer(
 
 // Reads the run text, and goes on to decode.
 fn run_answer(n: usize, starts: &[u8], columns: &[u8], run: &[u8], out: &mut [u8]) -> usize
-    requires { ⌜ (n ≤ 8192) × (length (now columns) / 2 ≤ 32768) × (longest ≤ length (now out)) ⌝ }
+    requires { ⌜ (n ≤ limits .variables) × (length (now columns) / 2 ≤ limits .entries) × (longest ≤ length (now out)) ⌝ }
     ensures { λ r. ⌜ Prints longest (afterRun n (now (starts .entry)) (now (columns .entry)) (runText n (now (run .entry)))) (now (out .entry)) (now (out .exit)) r ⌝ }
 {
-    let mut values = [0u8; 32768];
+    let mut values = [0u8; 4 * rules::MOST_VARIABLES];
     let x = run_text::read(n, run, &mut values);
     match x {
         Run::Refused(l) => put_refusal(out, Refusal::RunText(l)),
@@ -74,10 +74,10 @@ fn run_answer(n: usize, starts: &[u8], columns: &[u8], run: &[u8], out: &mut [u8
 // Reads the sheet, and goes on to the run text.
 fn sheet_answer(sheet: &[u8], run: &[u8], out: &mut [u8]) -> usize
     requires { ⌜ longest ≤ length (now out) ⌝ }
-    ensures { λ r. ⌜ Prints longest (afterSheet (sheetRead (now (sheet .entry)) 16386 65536) (now (run .entry))) (now (out .entry)) (now (out .exit)) r ⌝ }
+    ensures { λ r. ⌜ Prints longest (afterSheet (sheetGiven (now (sheet .entry))) (now (run .entry))) (now (out .entry)) (now (out .exit)) r ⌝ }
 {
-    let mut starts = [0u8; 16386];
-    let mut columns = [0u8; 65536];
+    let mut starts = [0u8; 2 * (rules::MOST_CHECKS + 1)];
+    let mut columns = [0u8; 2 * rules::MOST_ENTRIES];
     let x = sheet::read(sheet, &mut starts, &mut columns);
     match x {
         Sheet::Refused(r) => put_refusal(out, r),
@@ -89,14 +89,14 @@ fn sheet_answer(sheet: &[u8], run: &[u8], out: &mut [u8]) -> usize
     }
 }
 
-// What the program prints for a sheet and a run text, at the front of `out`: its length. Nothing where `out` is shorter than 8,300 bytes.
+// What the program prints for a sheet and a run text, at the front of `out`: its length. Nothing where `out` is shorter than the longest text.
 pub fn answer(sheet: &[u8], run: &[u8], out: &mut [u8]) -> usize
     ensures { λ r. ⌜ Answers (now (sheet .entry)) (now (run .entry)) (now (out .entry)) (now (out .exit)) r ⌝ }
 {
-    if out.len() < 8300 {
+    if out.len() < printing::LONGEST {
         return 0;
     }
-    if 65536 < sheet.len() {
+    if run_text::LARGEST_INPUT < sheet.len() {
         return put_refusal(out, Refusal::Count(0));
     }
     sheet_answer(sheet, run, out)
