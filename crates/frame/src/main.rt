@@ -26,11 +26,11 @@ fn write_answer(text: &[u8]) {
     }
 }
 
-// A byte more than 65,536 of each input shows that it is oversized.
+// A byte more than the largest input shows that it is oversized.
 fn main() {
-    let mut sheet = [0u8; 65537];
-    let mut run = [0u8; 65537];
-    let mut out = [0u8; 8300];
+    let mut sheet = [0u8; run_text::LARGEST_INPUT + 1];
+    let mut run = [0u8; run_text::LARGEST_INPUT + 1];
+    let mut out = [0u8; printing::LONGEST];
     let n = read_file(b"code.txt", &mut sheet);
     let k = files::read_whole(STDIN_FILENO, &mut run);
     let length = program::answer(&sheet[..n], &run[..k], &mut out);

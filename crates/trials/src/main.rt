@@ -5,7 +5,7 @@ use libc::STDOUT_FILENO;
 use lines::Line;
 
 fn trial(sheet: &[u8], run: &[u8]) {
-    let mut out = [0u8; 8300];
+    let mut out = [0u8; printing::LONGEST];
     let length = program::answer(sheet, run, &mut out);
     io::write_all(STDOUT_FILENO, &out[..length]);
 }
