@@ -6,7 +6,7 @@ use native.Mathlib.Numerals.{add-one}
 use native.Mathlib.Omega.{arith}
 use borrow.Author.Tests.{ltb-true, ltb-false, lt-ltb, le-ltb}
 use lib.Dec.{ltb}
-use Rattle.rules.specs.Graphs.{Graph, Limits, AdmittedWithin, Rowed, checkDegree, checkOf}
+use Rattle.rules.specs.Graphs.{Graph, Limits, leastCheckDegree, AdmittedWithin, Rowed, checkDegree, checkOf}
 use Rattle.rules.proofs.Ranges.{First, first-is, first-only}
 
 pub rowed : {L : Limits} {G : Graph} → AdmittedWithin L G → Rowed G
@@ -57,9 +57,9 @@ module _ (G : Graph) (ok : Rowed G) where
     found = λ _. lt-ltb e (G .start (suc i)) u;
   })
 
--- where row i begins and ends, as read: at least two entries of the graph, and within the limit
+-- where row i begins and ends, as read: entries of the graph, as many as a check may have
 pub admitted-row : {L : Limits} (G : Graph) → AdmittedWithin L G → (i : ℕ) {a b : ℕ} → i < G .checks → a ≡ G .start i → b ≡ G .start (i + 1)
-    → (a + 2 ≤ b) × (b ≤ a + L .checkDegree) × (b ≤ G .entries)
+    → (a + leastCheckDegree ≤ b) × (b ≤ a + L .checkDegree) × (b ≤ G .entries)
 admitted-row G ok i l p q =
     let d = ok .checkDegrees i l in
     let r : G .start (i + 1) ≡ G .start (suc i) = ap (G .start) (add-one i) in

@@ -2,7 +2,7 @@ use mathlib.Core.Path.{_≡_, sym, _∙_}
 use Prim.Native.Nat.{_+_, _≤_, _<_}
 use native.Mathlib.Omega.{arith}
 use borrow.Author.Needs.{needs}
-use Rattle.rules.specs.Graphs.{Graph, limits, Admitted}
+use Rattle.rules.specs.Graphs.{Graph, limits, leastCheckDegree, Admitted}
 use Rattle.rules.specs.declared.Judged.the-variants as Judgement
 use Rattle.words.specs.Roles.{graphOf}
 use Rattle.graph.specs.Calls.{rowJudgement}
@@ -29,7 +29,7 @@ good c = row-admitted (G (c .before .before .before .before .before)) (c .before
 
 -- where the row begins and ends
 ends : (c : tie.After-start2)
-    → (c .before .start .result + 2 ≤ c .start2 .result)
+    → (c .before .start .result + leastCheckDegree ≤ c .start2 .result)
     × (c .start2 .result ≤ c .before .start .result + limits .checkDegree)
     × (c .start2 .result ≤ G (c .before .before .before .before .before .before .before) .entries)
 ends c =
