@@ -1,10 +1,10 @@
 -- Document 01, 'Trial values': 'Gain 1, Nch 3: 1.0 → +0; 3f800001 → +1; 3.0 → +2; 40400001 → +3; 80000000 → -0.'
-use mathlib.Core.Path.{_≡_}
-use mathlib.Core.Bool.{Bool, cond}
+use mathlib.Core.Bool.{Bool}
 use mathlib.Core.List.{List, [], _∷_}
-use Prim.Native.Nat.{ℕ, suc}
+use Prim.Native.Nat.{ℕ}
 use lib.Dec.{eqb}
 use lib.Ieee.{binary32, ofBits}
+use Rattle.rules.specs.Tables.{AllPass}
 use Rattle.rules.specs.Levels.{Level, byte}
 use Rattle.rules.specs.Trials.{plus, minus}
 use Rattle.channel.specs.declared.Scaling.the-variants.{Plain}
@@ -27,11 +27,5 @@ trials =
 unfoldable pub passes : Trial → Bool
 passes (gives b l) = eqb (byte (levelFor 3 (factorOf (Plain (whole 1))) (ofBits binary32 b))) (byte l)
 
--- The rows of a table that fail, counted from k.
-unfoldable pub failures : ℕ → List Trial → List ℕ
-failures k [] = []
-failures k (t ∷ ts) = cond (passes t) (failures (suc k) ts) (k ∷ failures (suc k) ts)
-
--- Every trial passes.
 abbrev pub TrialsPass : Type 0
-TrialsPass = failures 1 trials ≡ []
+TrialsPass = AllPass passes trials

@@ -2,6 +2,7 @@
 use mathlib.Core.Path.{refl}
 use mathlib.Core.Bool.{xor}
 use lib.Ieee.{mul, div, lt, ofInt, ofBits}
+use Rattle.rules.specs.Tables.{failures}
 use Rattle.rules.specs.Ranges.{fold, but, count, joined, tabulate, first}
 use Rattle.rules.specs.Levels.{byte}
 use Rattle.rules.specs.Graphs.{variableDegree, checkOf, oddCheck, unsatisfied}
@@ -21,7 +22,7 @@ use Rattle.run_text.specs.Texts.{hexDigit, hexDigits, pattern, setting, titles,
 use Rattle.run_text.specs.Reading.{valueLines, runLines, runText}
 use Rattle.printing.specs.Texts.{verdictLines, reportText, refusalText}
 use Rattle.program.specs.Answering.{frameText, programText}
-use Rattle.program.specs.Trials.{many, trials, passes, failures, TrialsPass}
+use Rattle.program.specs.Trials.{many, trials, passes, TrialsPass}
 
 pub trials-pass : TrialsPass
 unfolding xor mul div lt ofInt ofBits fold but count joined tabulate first byte variableDegree checkOf oddCheck unsatisfied firstMessage firstBit others fromCheck contribution odd extra channelPart share posterior outgoingSum outgoingMagnitude outgoing fromVariable signPreserving begun sentIn sent iterated next state unsatisfiedIn stop final report each word bytes table spanJudged graphJudged countsJudged startsJudged columnsJudged rowsJudged checkDegreesJudged variableDegreesJudged positive wholesBelow levelFor frameJudged digits decimal more number lineText field line fixed rows sheetLines startIn columnIn sheetRead hexDigit hexDigits pattern setting titles scaling settings settingsLine valueLines runLines runText verdictLines reportText refusalText frameText programText many trials passes failures

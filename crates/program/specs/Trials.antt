@@ -1,10 +1,9 @@
 -- What the program prints: the document's whole example with its variants, and a refusal of each kind, as one table.
-use mathlib.Core.Path.{_≡_}
-use mathlib.Core.Bool.{Bool, cond}
+use mathlib.Core.Bool.{Bool}
 use mathlib.Core.List.{List, [], _∷_}
 use Prim.Native.Nat.{ℕ, zero, suc}
 use Prim.Native.String.{String, _++_}
-use Rattle.rules.specs.Trials.{sameList}
+use Rattle.rules.specs.Tables.{AllPass, sameList}
 use Rattle.lines.specs.Quoted.{ascii}
 use Rattle.program.specs.Answering.{programText}
 
@@ -57,11 +56,5 @@ trials =
 unfoldable pub passes : Trial → Bool
 passes (prints s r text) = sameList (programText s r) (ascii text)
 
--- The rows of a table that fail, counted from k.
-unfoldable pub failures : ℕ → List Trial → List ℕ
-failures k [] = []
-failures k (t ∷ ts) = cond (passes t) (failures (suc k) ts) (k ∷ failures (suc k) ts)
-
--- Every trial passes.
 abbrev pub TrialsPass : Type 0
-TrialsPass = failures 1 trials ≡ []
+TrialsPass = AllPass passes trials

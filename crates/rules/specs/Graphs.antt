@@ -33,7 +33,7 @@ pub record Limits : Type 0 where
   pub checkDegree : ℕ
   pub variableDegree : ℕ
 
--- 'n from 2 to 8,192; m from 1 to 8,192; E at most 32,768; check degree 2 to 64; variable degree 1 to 32.'
+-- 'Admitted: n from 2 to 8,192; m from 1 to 8,192; E at most 32,768; check degree 2 to 64; variable degree 1 to 32.'
 abbrev pub limits : Limits
 limits = record { variables = 8192; checks = 8192; entries = 32768; checkDegree = 64; variableDegree = 32 }
 
@@ -62,7 +62,7 @@ pub record AdmittedWithin (L : Limits) (G : Graph) : Type 0 where
   pub checkDegrees : (i : ℕ) → i < G .checks → (G .start i + leastCheckDegree ≤ G .start (suc i)) × (G .start (suc i) ≤ G .start i + L .checkDegree)
   pub variableDegrees : (v : ℕ) → v < G .variables → (leastVariableDegree ≤ variableDegree G v) × (variableDegree G v ≤ L .variableDegree)
 
--- 'Admitted', by this document.
+-- Admitted by this document.
 abbrev pub Admitted : Graph → Type 0
 Admitted G = AdmittedWithin limits G
 

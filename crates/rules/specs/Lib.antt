@@ -6,4 +6,5 @@ pub mod Nodes
 pub mod Sequence
 pub mod Symmetry
 pub mod Theorems
+pub mod Tables
 pub mod Trials

@@ -1,14 +1,14 @@
 -- Document 01, 'Trial values': the ★ cases of variable nodes, and the whole example with its variants, as one table. A check node and
 -- two ties stand there too, since neither 'the recipient's own message counted in a check's least' nor 'a tied sum sent to bit 0' shows
 -- in the others.
-use mathlib.Core.Path.{_≡_}
-use mathlib.Core.Bool.{Bool, true, false, cond, _&&_}
+use mathlib.Core.Bool.{Bool, true, false, _&&_}
 use mathlib.Core.List.{List, [], _∷_, map}
 use Prim.Native.Nat.{ℕ, suc, _-_}
 use lib.Dec.{eqb}
 use lib.Signed.{leZ}
 use lib.ListN.{length, getD}
 use lib.IntN.{ℤ, negsuc}
+use Rattle.rules.specs.Tables.{AllPass, sameList}
 use Rattle.rules.specs.Ranges.{one, tabulate}
 use Rattle.rules.specs.Levels.{Level, byte}
 use Rattle.rules.specs.Graphs.{Graph}
@@ -75,13 +75,6 @@ trials =
 abbrev pub sameSum : ℤ → ℤ → Bool
 sameSum a b = leZ a b && leZ b a
 
--- Two lists of numbers.
-abbrev pub sameList : List ℕ → List ℕ → Bool
-sameList [] [] = true
-sameList [] (b ∷ bs) = false
-sameList (a ∷ l) [] = false
-sameList (a ∷ l) (b ∷ bs) = eqb a b && sameList l bs
-
 -- A verdict as a number, and bits as numbers.
 abbrev pub verdictNumber : Verdict → ℕ
 verdictNumber Codeword = 0
@@ -105,11 +98,5 @@ passes (runs y limit verdict t u b) =
     sameList (verdictNumber (r .verdict) ∷ r .iterations ∷ r .unsatisfied ∷ bitNumbers (final example R limit .bits))
     (verdictNumber verdict ∷ t ∷ u ∷ bitNumbers b)
 
--- The rows of a table that fail, counted from k.
-unfoldable pub failures : ℕ → List Trial → List ℕ
-failures k [] = []
-failures k (t ∷ ts) = cond (passes t) (failures (suc k) ts) (k ∷ failures (suc k) ts)
-
--- Every trial passes.
 abbrev pub TrialsPass : Type 0
-TrialsPass = failures 1 trials ≡ []
+TrialsPass = AllPass passes trials

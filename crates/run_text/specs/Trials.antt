@@ -1,11 +1,10 @@
 -- The run text of the document's example, and that text with one line damaged in each way, as one table.
-use mathlib.Core.Path.{_≡_}
-use mathlib.Core.Bool.{Bool, cond}
+use mathlib.Core.Bool.{Bool}
 use mathlib.Core.List.{List, [], _∷_, _++_}
-use Prim.Native.Nat.{ℕ, suc}
+use Prim.Native.Nat.{ℕ}
 use Prim.Native.String.{String}
 use lib.Ieee.{binary32, toBits}
-use Rattle.rules.specs.Trials.{sameList}
+use Rattle.rules.specs.Tables.{AllPass, sameList}
 use Rattle.lines.specs.Quoted.{ascii}
 use Rattle.channel.specs.declared.Scaling.{Scaling}
 use Rattle.channel.specs.declared.Scaling.the-variants.{Plain, Noise}
@@ -82,11 +81,5 @@ unfoldable pub passes : Trial → Bool
 passes (reads t numbers) = sameList (told (runText 3 t)) numbers
 passes (refuses t l) = sameList (told (runText 3 t)) (0 ∷ l ∷ [])
 
--- The rows of a table that fail, counted from k.
-unfoldable pub failures : ℕ → List Trial → List ℕ
-failures k [] = []
-failures k (t ∷ ts) = cond (passes t) (failures (suc k) ts) (k ∷ failures (suc k) ts)
-
--- Every trial passes.
 abbrev pub TrialsPass : Type 0
-TrialsPass = failures 1 trials ≡ []
+TrialsPass = AllPass passes trials

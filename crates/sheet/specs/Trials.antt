@@ -1,13 +1,12 @@
 -- The sheet of the document's example, and that sheet with one line damaged in each way, as one table.
-use mathlib.Core.Path.{_≡_}
-use mathlib.Core.Bool.{Bool, false, cond, _&&_}
+use mathlib.Core.Bool.{Bool, false, _&&_}
 use mathlib.Core.List.{List, [], _∷_, _++_}
 use Prim.Native.Nat.{ℕ, suc}
 use Prim.Native.String.{String}
+use Rattle.rules.specs.Tables.{AllPass, sameList}
 use Rattle.rules.specs.Ranges.{tabulate}
 use Rattle.rules.specs.Graphs.{limits}
 use Rattle.rules.specs.Refusals.{paper}
-use Rattle.rules.specs.Trials.{sameList}
 use Rattle.lines.specs.Quoted.{ascii}
 use Rattle.sheet_text.specs.Texts.{heading, titles, sheetText}
 use Rattle.sheet.specs.Reading.{Reading, turned, graph, sheetRead}
@@ -79,11 +78,5 @@ passes (reads t s c n m starts columns) =
     sameList (told (sheetRead limits t s c)) (0 ∷ n ∷ m ∷ (starts ++ columns)) && writtenAs t (sheetRead limits t s c)
 passes (refuses t s c number place) = sameList (told (sheetRead limits t s c)) (number ∷ place ∷ [])
 
--- The rows of a table that fail, counted from k.
-unfoldable pub failures : ℕ → List Trial → List ℕ
-failures k [] = []
-failures k (t ∷ ts) = cond (passes t) (failures (suc k) ts) (k ∷ failures (suc k) ts)
-
--- Every trial passes.
 abbrev pub TrialsPass : Type 0
-TrialsPass = failures 1 trials ≡ []
+TrialsPass = AllPass passes trials
