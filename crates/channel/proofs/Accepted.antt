@@ -11,7 +11,7 @@ use Rattle.rules.specs.declared.Refusal.the-variants as Refusal
 use Rattle.rules.specs.declared.Judged.{Judged}
 use Rattle.rules.specs.declared.Judged.the-variants as Judged
 use Rattle.rules.proofs.Judging.{refused-not, and-left, and-right}
-use Rattle.channel.specs.declared.Scaling.{Scaling}
+use Rattle.channel.specs.declared.Parameters.{Parameters}
 use Rattle.channel.specs.declared.Settings.{Settings}
 use Rattle.channel.specs.declared.Checked.the-variants.{Good}
 use Rattle.channel.specs.Scaling.{factorOf, scalingAdmitted, infiniteOrZero}
@@ -22,17 +22,17 @@ use Rattle.channel.proofs.Factors.{factor-positive}
 abbrev inOrder : Bool → Bool → Bool → Bool → Judged
 inOrder p o g f = orElse (unless p Refusal.Precision) (orElse (unless o Refusal.Option) (orElse (unless g Refusal.Scaling) (unless f Refusal.Factor)))
 
-module _ (scaling : Scaling) (channel message phiS phiA phi0 limit : ℕ) where
+module _ (p : Parameters) where
   -- the answer, by what each of the four tests gave
-  pub tested : {p o g f : Bool} → precisionsAdmitted channel message ≡ p → optionsAdmitted phiS phiA phi0 limit ≡ o
-      → scalingAdmitted scaling ≡ g → not (infiniteOrZero (factorOf scaling)) ≡ f
-      → checked (inOrder p o g f) (settings scaling channel message phiS phiA phi0 limit) ≡ settingsOf scaling channel message phiS phiA phi0 limit
+  pub tested : {b o g f : Bool} → precisionsAdmitted (p .channel) (p .message) ≡ b → optionsAdmitted p ≡ o
+      → scalingAdmitted (p .scaling) ≡ g → not (infiniteOrZero (factorOf (p .scaling))) ≡ f
+      → checked (inOrder b o g f) (settings p) ≡ settingsOf p
   unfolding settingsOf
   tested hp ho hg hf = cc
 
-  pub with-factor : {f : Float} → f ≡ factorOf scaling
-      → Good (record { factor = f; channel = channel; message = message; «phi_s» = phiS; «phi_a» = phiA; «phi_0» = phi0; limit = limit })
-      ≡ Good (settings scaling channel message phiS phiA phi0 limit)
+  pub with-factor : {f : Float} → f ≡ factorOf (p .scaling)
+      → Good (record { factor = f; channel = p .channel; message = p .message; «phi_s» = p .«phi_s»; «phi_a» = p .«phi_a»; «phi_0» = p .«phi_0»; limit = p .limit })
+      ≡ Good (settings p)
   with-factor e = cc
 
 either : {P : Type 0} (a b : Bool) → (a ≡ true → P) → (b ≡ true → P) → a || b ≡ true → P
@@ -50,15 +50,18 @@ precision-bounds channel message h =
     either (eqb message channel) (eqb message (channel - 1)) (λ e. omega (arith, eqb-true message channel e)) (λ e. omega (arith, eqb-true message (channel - 1) e)) (and-right of-channel of-message h) in
     (bits, fewer)
 
-pub option-bounds : (s a z limit : ℕ) → optionsAdmitted s a z limit ≡ true → ((s ≤ 1) × (a ≤ 1) × (z ≤ 1)) × (limit ≤ 255)
-option-bounds s a z limit h =
-    let two = leb s 1 && leb a 1 in
-    let three = two && leb z 1 in
-    let t = and-left three (leb limit 255) h in
-    let u = and-left two (leb z 1) t in
-    let offsets : (s ≤ 1) × (a ≤ 1) × (z ≤ 1) =
-    (leb-true s 1 (and-left (leb s 1) (leb a 1) u), leb-true a 1 (and-right (leb s 1) (leb a 1) u), leb-true z 1 (and-right two (leb z 1) t)) in
-    (offsets, leb-true limit 255 (and-right three (leb limit 255) h))
+pub option-bounds : (p : Parameters) → optionsAdmitted p ≡ true → ((p .«phi_s» ≤ 1) × (p .«phi_a» ≤ 1) × (p .«phi_0» ≤ 1)) × (p .limit ≤ 255)
+option-bounds p h = go (p .«phi_s») (p .«phi_a») (p .«phi_0») (p .limit) h
+  where
+    go : (s a z limit : ℕ) → leb s 1 && leb a 1 && leb z 1 && leb limit 255 ≡ true → ((s ≤ 1) × (a ≤ 1) × (z ≤ 1)) × (limit ≤ 255)
+    go s a z limit h =
+        let two = leb s 1 && leb a 1 in
+        let three = two && leb z 1 in
+        let t = and-left three (leb limit 255) h in
+        let u = and-left two (leb z 1) t in
+        let offsets : (s ≤ 1) × (a ≤ 1) × (z ≤ 1) =
+        (leb-true s 1 (and-left (leb s 1) (leb a 1) u), leb-true a 1 (and-right (leb s 1) (leb a 1) u), leb-true z 1 (and-right two (leb z 1) t)) in
+        (offsets, leb-true limit 255 (and-right three (leb limit 255) h))
 
 checked-good : (j : Judged) (made s : Settings) → checked j made ≡ Good s → (j ≡ Judged.Admitted) × (s ≡ made)
 checked-good Judged.Admitted made s h = (refl, cc)
@@ -73,14 +76,14 @@ all-pass false o g f h = absurd (refused-not h)
 
 pub good-settings : GoodSettings
 unfolding settingsOf
-good-settings scaling channel message phiS phiA phi0 limit s h =
-    let made = settings scaling channel message phiS phiA phi0 limit in
-    let good = checked-good (settingsJudged scaling channel message phiS phiA phi0 limit) made s h in
-    let passed = all-pass (precisionsAdmitted channel message) (optionsAdmitted phiS phiA phi0 limit) (scalingAdmitted scaling) (not (infiniteOrZero (factorOf scaling))) (good .0) in
-    let bits = precision-bounds channel message (passed .0) in
-    let options = option-bounds phiS phiA phi0 limit (passed .1) in
+good-settings p s h =
+    let made = settings p in
+    let good = checked-good (settingsJudged p) made s h in
+    let passed = all-pass (precisionsAdmitted (p .channel) (p .message)) (optionsAdmitted p) (scalingAdmitted (p .scaling)) (not (infiniteOrZero (factorOf (p .scaling)))) (good .0) in
+    let bits = precision-bounds (p .channel) (p .message) (passed .0) in
+    let options = option-bounds p (passed .1) in
     let admissible : Admissible made = record {
-      factor = factor-positive scaling (passed .2) ∙ passed .3;
+      factor = factor-positive (p .scaling) (passed .2) ∙ passed .3;
       channel = bits .0;
       message = bits .1;
       offsets = options .0;

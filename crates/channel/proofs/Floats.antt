@@ -61,19 +61,6 @@ same-number nan h = absurd (true≢false h)
 same-number (inf s) h = tt
 same-number (fin s m e) h = tt
 
--- ---- the size, by the sign bit
-
-pub size-plus : (y : Float) → signBit y ≡ false → y ≡ size y
-size-plus nan h = refl
-size-plus (inf s) h = ap inf h
-size-plus (fin s m e) h = ap (λ b. fin b m e) h
-
-pub size-minus : (y : Float) → signBit y ≡ true → neg y ≡ size y
-unfolding neg
-size-minus nan h = refl
-size-minus (inf s) h = ap (λ b. inf (not b)) h
-size-minus (fin s m e) h = ap (λ b. fin (not b) m e) h
-
 -- ---- the negative
 
 pub neg-neg : (y : Float) → neg (neg y) ≡ y
@@ -102,6 +89,11 @@ unfolding odd
 odd-finite d s zero k l = refl
 odd-finite d s (suc q) k l = refl
 
+odd-size : (d : ℕ) (s : Bool) (q k l : ℕ) → odd d false q k l ≡ size (odd d s q k l)
+unfolding odd
+odd-size d s zero k l = refl
+odd-size d s (suc q) k l = refl
+
 odd-neg : (d q k l : ℕ) → odd d true q k l ≡ neg (odd d false q k l)
 unfolding odd neg
 odd-neg d zero k l = refl
@@ -128,6 +120,16 @@ fields-finite s (suc x) t = go (eqb (suc x) 255) (eqb t 0)
     go true false = refl
     go false b = sym (odd-finite 24 s (8388608 + t) x 149)
 
+fields-size : (s : Bool) (x t : ℕ) → ofFields binary32 false x t ≡ size (ofFields binary32 s x t)
+unfolding ofFields
+fields-size s zero t = odd-size 24 s t 0 149
+fields-size s (suc x) t = go (eqb (suc x) 255) (eqb t 0)
+  where
+    go : (a b : Bool) → cond a (cond b (inf false) nan) (odd 24 false (8388608 + t) x 149) ≡ size (cond a (cond b (inf s) nan) (odd 24 s (8388608 + t) x 149))
+    go true true = refl
+    go true false = refl
+    go false b = odd-size 24 s (8388608 + t) x 149
+
 fields-neg : (x t : ℕ) → ofFields binary32 true x t ≡ neg (ofFields binary32 false x t)
 unfolding ofFields neg
 fields-neg zero t = odd-neg 24 t 0 149
@@ -145,6 +147,24 @@ unfolding ofBits
 sign-is y f h =
     let e : ofBits binary32 (toBits binary32 y) ≡ y = ofBits-toBits binary32 y f in
     fields-sign (leb 2147483648 (toBits binary32 y)) (toBits binary32 y % 2147483648 / 8388608) (toBits binary32 y % 8388608) (subst (λ (z : Float). T (not (isNan z))) (sym e) h) ∙ ap signBit e
+
+-- the size is the pattern without that bit
+pub size-is : (y : Float) → T (fits binary32 y) → ofBits binary32 (toBits binary32 y % 2147483648) ≡ size y
+unfolding ofBits
+size-is y f =
+    let u : ℕ = toBits binary32 y in
+    let clear : leb 2147483648 (u % 2147483648) ≡ false = lt-leb 2147483648 (u % 2147483648) (omega arith) in
+    let low : u % 2147483648 % 2147483648 ≡ u % 2147483648 = omega arith in
+    let digits : u % 2147483648 % 8388608 ≡ u % 8388608 = omega arith in
+    rw (clear, low, digits) (fields-size (leb 2147483648 u) (u % 2147483648 / 8388608) (u % 8388608)) ∙ ap size (ofBits-toBits binary32 y f)
+
+pub size-nan : (y : Float) → ne y y ≡ true → y ≡ size y
+size-nan y h = go y (other-nan y h)
+  where
+    go : (z : Float) → false ≡ signBit z → z ≡ size z
+    go nan e = refl
+    go (inf s) e = ap inf (sym e)
+    go (fin s m e) p = ap (λ b. fin b m e) (sym p)
 
 -- a finite pattern is below that of infinity, the sign left out
 pub finite-is : (u : ℕ) → ltb (u % 2147483648) 2139095040 ≡ finite (ofBits binary32 u)

@@ -2,16 +2,15 @@
 use mathlib.Core.Path.{_≡_, refl, ap, ap₂, _∙_}
 use mathlib.Core.Bool.{Bool, true, false, cond}
 use mathlib.Core.List.{List, append-nil}
-use Prim.Native.Nat.{ℕ, zero, suc, _+_, _/_, _≤_, _<_, min}
+use Prim.Native.Nat.{ℕ, _+_, _/_, _≤_, _<_, min}
 use native.Mathlib.Numerals.{add-one}
 use native.Mathlib.Omega.{arith}
-use lib.Dec.{lit≤}
 use lib.Ieee.{Float, binary32, mul, lt}
 use lib.ListN.{length, drop-of-length-le}
 use mir.Syntax.{w8}
 use mir.Val.{Fits, boolByte}
 use Rattle.rules.specs.Ranges.{fold, one, count, tabulate}
-use Rattle.rules.specs.Levels.{byte, largest}
+use Rattle.rules.specs.Levels.{byte}
 use Rattle.rules.proofs.Ranges.{count-le}
 use Rattle.channel.specs.Scaling.{whole}
 use Rattle.channel.specs.Quantiser.{signBit, size, wholesBelow, levelFor}
@@ -45,15 +44,6 @@ below-within N p = count-le (λ k. lt (whole k) p) 1 N
 pub magnitudes-within : MagnitudesWithin
 unfolding levelFor
 magnitudes-within N factor y = below-within N (mul binary32 factor (size y))
-
--- of the precisions admitted
-pub largest-within : (bits : ℕ) → bits ≤ 4 → largest bits ≤ 7
-largest-within zero l = lit≤ tt
-largest-within (suc zero) l = lit≤ tt
-largest-within (suc (suc zero)) l = lit≤ tt
-largest-within (suc (suc (suc zero))) l = lit≤ tt
-largest-within (suc (suc (suc (suc zero)))) l = lit≤ tt
-largest-within (suc (suc (suc (suc (suc n))))) l = absurd (omega arith)
 
 pub sign-part : (y : Float) → cond (signBit y) 128 0 ≤ 128
 sign-part y = go (signBit y)

@@ -6,7 +6,7 @@ use Rattle.rules.specs.Refusals.{unless, orElse}
 use Rattle.rules.specs.declared.Refusal.the-variants as Refusal
 use Rattle.rules.specs.declared.Judged.{Judged}
 use Rattle.rules.specs.declared.Judged.the-variants as Judged
-use Rattle.channel.specs.declared.Scaling.{Scaling}
+use Rattle.channel.specs.declared.Parameters.{Parameters}
 use Rattle.channel.specs.declared.Settings.{Settings}
 use Rattle.channel.specs.declared.Checked.{Checked}
 use Rattle.channel.specs.declared.Checked.the-variants.{Good, Refused}
@@ -16,23 +16,31 @@ use Rattle.channel.specs.Scaling.{factorOf, scalingAdmitted, infiniteOrZ
 abbrev pub precisionsAdmitted : ℕ → ℕ → Bool
 precisionsAdmitted channel message = (eqb channel 3 || eqb channel 4) && (eqb message channel || eqb message (channel - 1))
 
--- 'An offset above 1 or limit above 255' is refused.
-abbrev pub optionsAdmitted : ℕ → ℕ → ℕ → ℕ → Bool
-optionsAdmitted phiS phiA phi0 limit = leb phiS 1 && leb phiA 1 && leb phi0 1 && leb limit 255
+module _ (p : Parameters) where
+  -- 'An offset above 1 or limit above 255' is refused.
+  abbrev pub optionsAdmitted : Bool
+  optionsAdmitted = leb (p .«phi_s») 1 && leb (p .«phi_a») 1 && leb (p .«phi_0») 1 && leb (p .limit) 255
 
-module _ (scaling : Scaling) (channel message phiS phiA phi0 limit : ℕ) where
   -- '8, precisions not admitted; 9, an offset above 1 or limit above 255; 10, gain or variance not finite and above zero; 11, factor
   -- infinite or zero.'
   abbrev pub settingsJudged : Judged
   settingsJudged =
-      orElse (unless (precisionsAdmitted channel message) Refusal.Precision)
-      (orElse (unless (optionsAdmitted phiS phiA phi0 limit) Refusal.Option)
-      (orElse (unless (scalingAdmitted scaling) Refusal.Scaling)
-      (unless (not (infiniteOrZero (factorOf scaling))) Refusal.Factor)))
+      orElse (unless (precisionsAdmitted (p .channel) (p .message)) Refusal.Precision)
+      (orElse (unless optionsAdmitted Refusal.Option)
+      (orElse (unless (scalingAdmitted (p .scaling)) Refusal.Scaling)
+      (unless (not (infiniteOrZero (factorOf (p .scaling)))) Refusal.Factor)))
 
   -- The factor, beside the precisions in bits, the offsets and the limit as they were given.
   abbrev pub settings : Settings
-  settings = record { factor = factorOf scaling; channel = channel; message = message; «phi_s» = phiS; «phi_a» = phiA; «phi_0» = phi0; limit = limit }
+  settings = record {
+    factor = factorOf (p .scaling);
+    channel = p .channel;
+    message = p .message;
+    «phi_s» = p .«phi_s»;
+    «phi_a» = p .«phi_a»;
+    «phi_0» = p .«phi_0»;
+    limit = p .limit;
+  }
 
 -- The settings, unless they were turned down.
 abbrev pub checked : Judged → Settings → Checked
@@ -40,6 +48,5 @@ checked Judged.Admitted s = Good s
 checked (Judged.Refused r) s = Refused r
 
 -- The settings, or why they are turned down.
-unfoldable pub settingsOf : Scaling → ℕ → ℕ → ℕ → ℕ → ℕ → ℕ → Checked
-settingsOf scaling channel message phiS phiA phi0 limit =
-    checked (settingsJudged scaling channel message phiS phiA phi0 limit) (settings scaling channel message phiS phiA phi0 limit)
+unfoldable pub settingsOf : Parameters → Checked
+settingsOf p = checked (settingsJudged p) (settings p)

@@ -7,7 +7,7 @@ use lib.Ieee.{Float}
 use lib.ListN.{length}
 use Rattle.rules.specs.Symmetry.{turned}
 use Rattle.rules.specs.declared.Judged.the-variants.{Admitted}
-use Rattle.channel.specs.declared.Scaling.{Scaling}
+use Rattle.channel.specs.declared.Parameters.{Parameters}
 use Rattle.channel.specs.declared.Settings.{Settings}
 use Rattle.channel.specs.declared.Checked.the-variants.{Good}
 use Rattle.channel.specs.Scaling.{positive}
@@ -29,9 +29,7 @@ pub record Admissible (s : Settings) : Type 0 where
   pub limit : s .limit ≤ 255
 
 abbrev pub GoodSettings : Type 0
-GoodSettings = (scaling : Scaling) (channel message phiS phiA phi0 limit : ℕ) (s : Settings)
-    → settingsOf scaling channel message phiS phiA phi0 limit ≡ Good s
-    → (s ≡ settings scaling channel message phiS phiA phi0 limit) × Admissible s
+GoodSettings = (p : Parameters) (s : Settings) → settingsOf p ≡ Good s → (s ≡ settings p) × Admissible s
 
 -- Values with signs reversed are turned down where the values are, at the same index.
 abbrev pub ReversedJudged : Type 0

@@ -18,7 +18,18 @@ pub enum Scaling {
     Noise(f32, f32),
 }
 
-// The checked factor, beside the precisions in bits, the offsets and the limit.
+// What is asked of a run, as it is given, any numbers: the scaling, the precisions in bits, the offsets and the limit.
+pub struct Parameters {
+    pub scaling: Scaling,
+    pub channel: u32,
+    pub message: u32,
+    pub phi_s: u32,
+    pub phi_a: u32,
+    pub phi_0: u32,
+    pub limit: u32,
+}
+
+// The same once it is checked, with the factor of the scaling.
 pub struct Settings {
     pub factor: f32,
     pub channel: u8,
@@ -75,31 +86,24 @@ fn precisions_admitted(channel: u32, message: u32) -> bool
     false
 }
 
-// Whether these are offsets and a limit.
-fn options_admitted(phi_s: u32, phi_a: u32, phi_0: u32, limit: u32) -> bool
-    ensures { λ r. ⌜ r ≡ optionsAdmitted «phi_s» «phi_a» «phi_0» limit ⌝ }
+// Whether the offsets and the limit are within theirs.
+fn options_admitted(p: Parameters) -> bool
+    ensures { λ r. ⌜ r ≡ optionsAdmitted p ⌝ }
 {
-    (phi_s <= 1) & (phi_a <= 1) & (phi_0 <= 1) & (limit <= 255)
+    (p.phi_s <= 1) & (p.phi_a <= 1) & (p.phi_0 <= 1) & (p.limit <= 255)
 }
 
 // The settings, or why they are turned down.
-pub fn check_settings(
-    scaling: Scaling,
-    channel: u32,
-    message: u32,
-    phi_s: u32,
-    phi_a: u32,
-    phi_0: u32,
-    limit: u32,
-) -> Checked
-    ensures { λ r. ⌜ r ≡ settingsOf scaling channel message «phi_s» «phi_a» «phi_0» limit ⌝ }
+pub fn check_settings(p: Parameters) -> Checked
+    ensures { λ r. ⌜ r ≡ settingsOf p ⌝ }
 {
-    if !precisions_admitted(channel, message) {
+    if !precisions_admitted(p.channel, p.message) {
         return Checked::Refused(Refusal::Precision);
     }
-    if !options_admitted(phi_s, phi_a, phi_0, limit) {
+    if !options_admitted(p) {
         return Checked::Refused(Refusal::Option);
     }
+    let scaling = p.scaling;
     if !scaling_admitted(scaling) {
         return Checked::Refused(Refusal::Scaling);
     }
@@ -109,12 +113,12 @@ pub fn check_settings(
     }
     Checked::Good(Settings {
         factor: f,
-        channel: channel as u8,
-        message: message as u8,
-        phi_s: phi_s as u8,
-        phi_a: phi_a as u8,
-        phi_0: phi_0 as u8,
-        limit: limit as u8,
+        channel: p.channel as u8,
+        message: p.message as u8,
+        phi_s: p.phi_s as u8,
+        phi_a: p.phi_a as u8,
+        phi_0: p.phi_0 as u8,
+        limit: p.limit as u8,
     })
 }
 
@@ -128,11 +132,14 @@ fn is_minus(y: f32) -> bool
     0x8000_0000 <= f32::to_bits(y)
 }
 
-// |y|
+// |y|, by its bits: signs are as good as random, so that a branch on one would be mispredicted half the time.
 fn size_of(y: f32) -> f32
     ensures { λ r. ⌜ r ≡ size y ⌝ }
 {
-    if is_minus(y) { -y } else { y }
+    if y != y {
+        return y;
+    }
+    words::float_of(f32::to_bits(y) % 0x8000_0000)
 }
 
 // What the sign of y adds to its level's byte.

@@ -17,41 +17,44 @@ use Rattle.rules.specs.declared.Report.{Report}
 use Rattle.graph.specs.Judging.{graphJudged}
 use Rattle.graph.proofs.Meaning.{graph-admitted}
 use Rattle.channel.specs.declared.Settings.{Settings}
+use Rattle.channel.specs.declared.Checked.{Checked}
 use Rattle.channel.specs.declared.Checked.the-variants as Checks
 use Rattle.channel.specs.Settings.{settings, settingsJudged, checked, settingsOf}
 use Rattle.channel.proofs.Accepted.{good-settings}
 use Rattle.channel.specs.Values.{valuesJudged}
-use Rattle.decoder.specs.Decoding.{Frame, Memory, Room, roomOf, graph, enough, frameJudged, decodeJudged, decoded, memoryAfter, Decodes}
-use Rattle.decoder.specs.Steps.{Ready, RunsInto}
+use Rattle.decoder.specs.declared.Room.{Room}
+use Rattle.decoder.specs.Decoding.{Frame, Memory, roomOf, graph, enough, frameJudged, decodeJudged, decoded, memoryAfter, Decodes}
+use Rattle.decoder.specs.Steps.{Ready}
 use Rattle.decoder.specs.declared.Decoded.the-variants as Answers
+use Rattle.decoder.proofs.Beginning.{RunsInto}
 
-module _ (F : Frame) (m : Room) where
-  pub graph-refused : {r : Refusal} → graphJudged limits (graph F) ≡ Refused r → decodeJudged F m ≡ Refused r
-  unfolding decodeJudged frameJudged
+-- all but the memory
+module _ (F : Frame) where
+  pub graph-refused : {r : Refusal} → graphJudged limits (graph F) ≡ Refused r → frameJudged F ≡ Refused r
+  unfolding frameJudged
   graph-refused a = rw a
 
   module _ (a : graphJudged limits (graph F) ≡ Admitted) where
-    pub length-refused : (length (F .values) / 4 ≡ F .variables → ⊥) → decodeJudged F m ≡ Refused (Length (length (F .values) / 4))
-    unfolding decodeJudged frameJudged
+    pub length-refused : (length (F .values) / 4 ≡ F .variables → ⊥) → frameJudged F ≡ Refused (Length (length (F .values) / 4))
+    unfolding frameJudged
     length-refused h = rw (a, ne-eqb (length (F .values) / 4) (F .variables) h)
 
     module _ (l : length (F .values) / 4 ≡ F .variables) where
       counted : unless (eqb (length (F .values) / 4) (F .variables)) (Length (length (F .values) / 4)) ≡ Admitted
       counted = rw (eq-eqb (length (F .values) / 4) (F .variables) l)
 
-      pub settings-refused : {r : Refusal} → settingsJudged (F .scaling) (F .channel) (F .message) (F .phiS) (F .phiA) (F .phi0) (F .limit) ≡ Refused r → decodeJudged F m ≡ Refused r
-      unfolding decodeJudged frameJudged
+      pub settings-refused : {r : Refusal} → settingsJudged (F .asked) ≡ Refused r → frameJudged F ≡ Refused r
+      unfolding frameJudged
       settings-refused c = rw (a, counted, c)
 
-      module _ (c : settingsJudged (F .scaling) (F .channel) (F .message) (F .phiS) (F .phiA) (F .phi0) (F .limit) ≡ Admitted) where
-        pub values-refused : {r : Refusal} → valuesJudged (F .values) ≡ Refused r → decodeJudged F m ≡ Refused r
-        unfolding decodeJudged frameJudged
-        values-refused d = rw (a, counted, c, d)
+      -- what is left is the values
+      pub values-judged : {j : Judged} → settingsJudged (F .asked) ≡ Admitted → valuesJudged (F .values) ≡ j → frameJudged F ≡ j
+      unfolding frameJudged
+      values-judged c d = rw (a, counted, c, d)
 
-        -- all but the memory
-        pub frame-admitted : valuesJudged (F .values) ≡ Admitted → frameJudged F ≡ Admitted
-        unfolding frameJudged
-        frame-admitted d = rw (a, counted, c, d)
+pub frame-refused : (F : Frame) (m : Room) {r : Refusal} → frameJudged F ≡ Refused r → decodeJudged F m ≡ Refused r
+unfolding decodeJudged
+frame-refused F m a = rw a
 
 pub memory-refused : (F : Frame) (m : Room) → frameJudged F ≡ Admitted → enough (F .variables) (graph F .entries) m ≡ false → decodeJudged F m ≡ Refused Buffer
 unfolding decodeJudged
@@ -71,14 +74,14 @@ checked-good Admitted s h = refl
 checked-good (Refused x) s h = let z : _≡_ {A = ℕ} 0 1 = cc in absurd (omega arith)
 
 -- what memory that is long enough has
-pub enough-told : (n E : ℕ) (m : Room) → enough n E m ≡ true → (n ≤ m .levels) × (E ≤ m .variableMessages) × (E ≤ m .checkMessages) × (4 * n ≤ m .sums) × (n ≤ m .bits)
+pub enough-told : (n E : ℕ) (m : Room) → enough n E m ≡ true → (n ≤ m .levels) × (E ≤ m .«variable_messages») × (E ≤ m .«check_messages») × (4 * n ≤ m .sums) × (n ≤ m .bits)
 enough-told n E m h =
     let h₁ = and-right (leb n (m .levels)) _ h in
-    let h₂ = and-right (leb E (m .variableMessages)) _ h₁ in
-    let h₃ = and-right (leb E (m .checkMessages)) _ h₂ in (
+    let h₂ = and-right (leb E (m .«variable_messages»)) _ h₁ in
+    let h₃ = and-right (leb E (m .«check_messages»)) _ h₂ in (
       leb-true n (m .levels) (and-left (leb n (m .levels)) _ h),
-      leb-true E (m .variableMessages) (and-left (leb E (m .variableMessages)) _ h₁),
-      leb-true E (m .checkMessages) (and-left (leb E (m .checkMessages)) _ h₂),
+      leb-true E (m .«variable_messages») (and-left (leb E (m .«variable_messages»)) _ h₁),
+      leb-true E (m .«check_messages») (and-left (leb E (m .«check_messages»)) _ h₂),
       leb-true (4 * n) (m .sums) (and-left (leb (4 * n) (m .sums)) _ h₃),
       leb-true n (m .bits) (and-right (leb (4 * n) (m .sums)) _ h₃),
     )
@@ -88,7 +91,7 @@ enough-told n E m h =
 pub record Told (F : Frame) : Type 0 where
   pub graph : graphJudged limits (graph F) ≡ Admitted
   pub count : length (F .values) / 4 ≡ F .variables
-  pub settings : settingsJudged (F .scaling) (F .channel) (F .message) (F .phiS) (F .phiA) (F .phi0) (F .limit) ≡ Admitted
+  pub settings : settingsJudged (F .asked) ≡ Admitted
   pub values : valuesJudged (F .values) ≡ Admitted
 
 pub frame-told : (F : Frame) → frameJudged F ≡ Admitted → Told F
@@ -101,7 +104,7 @@ frame-told F h = record {
 }
   where
     s : Judged
-    s = settingsJudged (F .scaling) (F .channel) (F .message) (F .phiS) (F .phiA) (F .phi0) (F .limit)
+    s = settingsJudged (F .asked)
 
     v : Judged
     v = valuesJudged (F .values)
@@ -125,34 +128,49 @@ memory-told F m h = (
   unless-true (enough (F .variables) (graph F .entries) m) Buffer (orElse-right (frameJudged F) (unless (enough (F .variables) (graph F .entries) m) Buffer) h),
 )
 
--- ---- the answers of decode
+-- ---- the answers of decode, from what `accept` answers
 
-pub checked-same : (j : Judged) (s : Settings) {t : Settings} → checked j s ≡ Checks.Good t → s ≡ t
+checked-same : (j : Judged) (s : Settings) {t : Settings} → checked j s ≡ Checks.Good t → s ≡ t
 checked-same Admitted s h = cc
 checked-same (Refused x) s h = let z : _≡_ {A = ℕ} 0 1 = cc in absurd (omega arith)
 
-abbrev pub settingsFor : Frame → Settings
-settingsFor F = settings (F .scaling) (F .channel) (F .message) (F .phiS) (F .phiA) (F .phi0) (F .limit)
+module _ (F : Frame) (M : Memory) where
+  abbrev acceptance : Checked
+  acceptance = checked (decodeJudged F (roomOf M)) (settings (F .asked))
 
--- what the run of an accepted frame asks
-pub ready : (F : Frame) {s : Settings} → frameJudged F ≡ Admitted → settingsFor F ≡ s → Ready s (F .variables) (F .starts) (F .columns) (F .values)
-unfolding settingsOf
-ready F {s} h e = subst (λ t. Ready t (F .variables) (F .starts) (F .columns) (F .values)) e (record {
-  settings = good-settings (F .scaling) (F .channel) (F .message) (F .phiS) (F .phiA) (F .phi0) (F .limit) (settingsFor F) (ap (λ j. checked j (settingsFor F)) (frame-told F h .settings)) .1;
-  admitted = graph-admitted (graph F) (frame-told F h .graph);
-  count = frame-told F h .count;
-  finite = frame-told F h .values;
-})
+  pub decodes-refused : {r : Refusal} → acceptance ≡ Checks.Refused r → Decodes F M M (Answers.Refused r)
+  decodes-refused {r} e = record { answer = sym (ap (decoded F) h); memory = sym (ap (λ j. memoryAfter F j M) h) }
+    where
+      h : decodeJudged F (roomOf M) ≡ Refused r
+      h = checked-refused (decodeJudged F (roomOf M)) (settings (F .asked)) e
 
-pub decodes-refused : (F : Frame) (M : Memory) {r : Refusal} → decodeJudged F (roomOf M) ≡ Refused r → Decodes F M M (Answers.Refused r)
-decodes-refused F M h = record { answer = sym (ap (decoded F) h); memory = sym (ap (λ j. memoryAfter F j M) h) }
+  module _ {s : Settings} (e : acceptance ≡ Checks.Good s) where
+    admitted : decodeJudged F (roomOf M) ≡ Admitted
+    admitted = checked-good (decodeJudged F (roomOf M)) (settings (F .asked)) e
 
-pub decodes-ran : (F : Frame) (M M′ : Memory) {s : Settings} {r : Report} → decodeJudged F (roomOf M) ≡ Admitted → settingsFor F ≡ s
-    → RunsInto s (F .variables) (F .starts) (F .columns) (F .values) r M M′ → Decodes F M M′ (Answers.Ran r)
-decodes-ran F M M′ {s} {r} h e w = record {
-  answer = ap Answers.Ran (run .report) ∙ sym (ap (decoded F) h);
-  memory = run .memory ∙ sym (ap (λ j. memoryAfter F j M) h);
-}
-  where
-    run : RunsInto (settingsFor F) (F .variables) (F .starts) (F .columns) (F .values) r M M′
-    run = subst (λ t. RunsInto t (F .variables) (F .starts) (F .columns) (F .values) r M M′) (sym e) w
+    same : settings (F .asked) ≡ s
+    same = checked-same (decodeJudged F (roomOf M)) (settings (F .asked)) e
+
+    -- what the run asks
+    pub decode-ready : Ready s (graph F) (F .values) × (enough (F .variables) (graph F .entries) (roomOf M) ≡ true)
+    unfolding settingsOf
+    decode-ready =
+        let held = memory-told F (roomOf M) admitted in
+        let told = frame-told F (held .0) in (
+          subst (λ t. Ready t (graph F) (F .values)) same (record {
+            settings = good-settings (F .asked) (settings (F .asked)) (ap (λ j. checked j (settings (F .asked))) (told .settings)) .1;
+            admitted = graph-admitted (graph F) (told .graph);
+            count = told .count;
+            finite = told .values;
+          }),
+          held .1,
+        )
+
+    pub decodes-ran : {M′ : Memory} {r : Report} → RunsInto s (graph F) (F .values) r M M′ → Decodes F M M′ (Answers.Ran r)
+    decodes-ran {M′} {r} w = record {
+      answer = ap Answers.Ran (run .report) ∙ sym (ap (decoded F) admitted);
+      memory = run .memory ∙ sym (ap (λ j. memoryAfter F j M) admitted);
+    }
+      where
+        run : RunsInto (settings (F .asked)) (graph F) (F .values) r M M′
+        run = subst (λ t. RunsInto t (graph F) (F .values) r M M′) (sym same) w

@@ -2,6 +2,7 @@
 use mathlib.Core.Path.{refl}
 use mathlib.Core.Bool.{xor}
 use lib.Ieee.{mul, lt, ofInt, ofBits}
+use Rattle.rules.specs.Tables.{failures}
 use Rattle.rules.specs.Ranges.{fold, but, count, joined, tabulate, first}
 use Rattle.rules.specs.Levels.{byte}
 use Rattle.rules.specs.Graphs.{variableDegree, checkOf, oddCheck, unsatisfied}
@@ -12,7 +13,7 @@ use Rattle.rules.specs.Trials.{star, fan}
 use Rattle.words.specs.Words.{word, bytes}
 use Rattle.channel.specs.Quantiser.{wholesBelow, levelFor}
 use Rattle.channel.specs.Trials as Levels
-use Rattle.decoder.specs.Trials.{inBytes, example, trials, passes, failures, TrialsPass}
+use Rattle.decoder.specs.Trials.{inBytes, example, trials, passes, TrialsPass}
 
 pub trials-pass : TrialsPass
 unfolding xor mul lt ofInt ofBits fold but count joined tabulate first byte variableDegree checkOf oddCheck unsatisfied firstMessage firstBit others fromCheck contribution odd extra channelPart share posterior outgoingSum outgoingMagnitude outgoing fromVariable signPreserving begun sentIn sent iterated next state unsatisfiedIn stop final report star fan Nodes.example Nodes.trials Nodes.passes word bytes wholesBelow levelFor Levels.trials Levels.passes inBytes example trials passes failures

@@ -14,7 +14,7 @@ use Rattle.rules.specs.Ranges.{joined, count, one, tabulate}
 use Rattle.rules.specs.Levels.{Level, byte, levelOf, plusZero}
 use Rattle.rules.specs.Graphs.{Graph, limits, Admitted, variableDegree}
 use Rattle.rules.specs.Nodes.{Offsets, firstMessage, firstBit}
-use Rattle.rules.specs.Sequence.{signPreserving, begun, final}
+use Rattle.rules.specs.Sequence.{signPreserving, begun, final, report}
 use Rattle.rules.specs.declared.Report.{Report}
 use Rattle.rules.proofs.Ranges.{getD-tabulate, length-tabulate}
 use Rattle.rules.proofs.Same.{final-same, report-same}
@@ -27,8 +27,8 @@ use Rattle.channel.specs.declared.Settings.{Settings}
 use Rattle.channel.specs.Values.{channelLevel}
 use Rattle.channel.proofs.Magnitudes.{magnitudes-within}
 use Rattle.nodes.specs.Memory.{levelIn}
-use Rattle.decoder.specs.Steps.{Holds, Sized, Begins, Runs, schemeUnder, RunsFrom, RunsInto}
-use Rattle.decoder.specs.Decoding.{Memory}
+use Rattle.decoder.specs.Steps.{Holds, Sized, Begins, rulesUnder, Runs, levelsUnder, RunsFrom}
+use Rattle.decoder.specs.Decoding.{Memory, filled}
 use Rattle.decoder.specs.Frames.{memory}
 
 -- zeros, as numbers of four bytes
@@ -89,14 +89,18 @@ runs-same G ok Nq φ y y′ h {limit} {r} {q} {C} {S} {b} w = record {
   holds = subst (λ σ. Holds G σ q C S b) (final-same G ok Nq φ y y′ h limit) (w .holds);
 }
 
--- the run in the front of longer memory
-pub run-into : {s : Settings} {n : ℕ} {starts columns values : List ℕ} {r : Report} {y q C S b : List ℕ} (M : Memory) → RunsFrom s n starts columns values r y q C S b
-    → RunsInto s n starts columns values r M
-    (memory (y ++ drop n (M .levels)) (q ++ drop (length columns / 2) (M .variableMessages)) (C ++ drop (length columns / 2) (M .checkMessages)) (S ++ drop (4 * n) (M .sums)) (b ++ drop n (M .bits)))
-run-into {s} {n} {starts} {columns} {values} {r} {y} {q} {C} {S} {b} M w = record {
+-- the run in the front of memory that may be longer: M before, M′ after
+pub record RunsInto (s : Settings) (G : Graph) (values : List ℕ) (r : Report) (M M′ : Memory) : Type 0 where
+  pub report : r ≡ report G (rulesUnder s G (levelsUnder s values)) (s .limit)
+  pub memory : M′ ≡ filled (G .variables) (G .entries) (levelsUnder s values) (final G (rulesUnder s G (levelsUnder s values)) (s .limit)) M
+
+pub run-into : {s : Settings} {G : Graph} {values : List ℕ} {r : Report} {y q C S b : List ℕ} (M : Memory) → RunsFrom s G values r y q C S b
+    → RunsInto s G values r M
+    (memory (y ++ drop (G .variables) (M .levels)) (q ++ drop (G .entries) (M .variableMessages)) (C ++ drop (G .entries) (M .checkMessages)) (S ++ drop (4 * G .variables) (M .sums)) (b ++ drop (G .variables) (M .bits)))
+run-into {s} {G} {values} {r} {y} {q} {C} {S} {b} M w = record {
   report = w .runs .report;
   memory = rw (w .levels, h .variableMessages, h .checkMessages, h .sums, h .bits);
 }
   where
-    h : Holds (graphOf n starts columns) (final (graphOf n starts columns) (schemeUnder s n starts columns values) (s .limit)) q C S b
+    h : Holds G (final G (rulesUnder s G (levelsUnder s values)) (s .limit)) q C S b
     h = w .runs .holds

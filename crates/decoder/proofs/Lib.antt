@@ -1,6 +1,6 @@
 pub mod Answers
 pub mod Stepping
 pub mod Running
-pub mod Accepting
 pub mod Beginning
+pub mod Accepting
 pub mod Twinning

@@ -1,6 +1,6 @@
 -- The memory holds the state of the iteration, from one iteration to the next, and the run stops where the rules say.
 use mathlib.Core.Path.{_≡_, refl, sym, ap, ap₂, _∙_, fun-ext, subst}
-use mathlib.Core.Bool.{Bool, true, false, not, _||_, true≢false}
+use mathlib.Core.Bool.{Bool, true, false, not, cond, _||_, true≢false}
 use mathlib.Core.List.{List, map}
 use Prim.Native.Nat.{ℕ, zero, suc, _+_, _*_, _-_, _^_, _≤_, _<_}
 use native.Mathlib.Decide.{decLt}
@@ -9,29 +9,30 @@ use native.Mathlib.Numerals.{add-one}
 use native.Mathlib.Omega.{arith}
 use borrow.Author.Tests.{ne-eqb, lt-leb, leb-false}
 use lib.Dec.{eqb, leb}
-use lib.IntN.{pos, natAbs, _-ℤ_}
+use lib.IntN.{ℤ, pos, natAbs, _+ℤ_, _-ℤ_}
 use lib.ListN.{length, getD, List·getD-map, List·getD-eq-default}
 use mir.Syntax.{w32}
 use mir.Val.{ofZ}
-use Rattle.rules.specs.Ranges.{one, tabulate}
+use Rattle.rules.specs.Ranges.{fold, one, tabulate}
 use Rattle.rules.specs.Levels.{Level, byte, levelOf, plusZero, largest}
 use Rattle.rules.specs.Graphs.{Graph, limits, Admitted, variableDegree, unsatisfied}
-use Rattle.rules.specs.Nodes.{Offsets, fromCheck, contribution, posterior, bitOf, outgoingSum, outgoingMagnitude, fromVariable}
+use Rattle.rules.specs.Nodes.{Offsets, fromCheck, contribution, channelPart, share, posterior, bitOf, outgoing, fromVariable}
 use Rattle.rules.specs.Sequence.{Scheme, signPreserving, levelAt, bitAt, begun, sentIn, sent, iterated, next, state, unsatisfiedIn, stop, final, report}
 use Rattle.rules.specs.declared.Report.{Report}
 use Rattle.rules.proofs.Ranges.{tabulate-ext, length-tabulate, getD-tabulate, first-is, first-only}
 use Rattle.rules.proofs.Filling.{map-tabulate}
 use Rattle.rules.proofs.Own.{level-bytes}
 use Rattle.rules.proofs.Parity.{outgoing-is-rest}
-use Rattle.rules.proofs.Bounds.{magnitude-within, messages-within, sums-bounded}
+use Rattle.rules.proofs.Bounds.{messages-within, sums-bounded}
 use Rattle.words.specs.Roles.{sumAt, bitOfByte}
 use Rattle.words.proofs.Words.{table-ext}
-use Rattle.channel.proofs.Magnitudes.{largest-within}
+use Rattle.rules.proofs.Own.{largest-within}
 use Rattle.nodes.specs.Memory.{levelIn}
-use Rattle.nodes.specs.Magnitudes.{outgoingBy}
+use Rattle.nodes.specs.Lists.{Parts, shareIn, sentBy}
 use Rattle.nodes.proofs.Leaves.{magnitude-small}
-use Rattle.nodes.proofs.Table.{by-nine}
-use Rattle.decoder.specs.Steps.{Holds, Sized, Iterates, sends, whenSent, reportAt, Runs}
+use Rattle.nodes.proofs.SumLaws.{contribution-small, parts-are, parts-of}
+use Rattle.nodes.proofs.Outgoing.{outgoing-saturates, sent-by}
+use Rattle.decoder.specs.Steps.{Holds, Sized, sumBy, Iterates, sends, whenSent, reportAt, Lists, Runs}
 use Rattle.decoder.proofs.Stepping.{sum-in, extra-small}
 
 -- ---- lists in bytes
@@ -44,6 +45,18 @@ levels-of l h = fun-ext (λ e. ap levelOf (List·getD-map byte l e plusZero) ∙
     go : (e : ℕ) → Dec (e < length l) → levelAt l e .magnitude < 128
     go e (yes p) = h e p
     go e (no p) = rw (List·getD-eq-default l plusZero {n = e} (omega arith)) (omega arith)
+
+bytes-of : (l : List Level) → ((e : ℕ) → e < length l → levelAt l e .magnitude < 128) → (e : ℕ) → getD (map byte l) e 0 < 256
+unfolding byte
+bytes-of l h e = rw (List·getD-map byte l e plusZero) (go (decLt e (length l)))
+  where
+    small : (b : Bool) (m : ℕ) → m < 128 → m + cond b 128 0 < 256
+    small true m l = omega arith
+    small false m l = omega arith
+
+    go : Dec (e < length l) → byte (levelAt l e) < 256
+    go (yes p) = small (levelAt l e .minus) (levelAt l e .magnitude) (h e p)
+    go (no p) = rw (List·getD-eq-default l plusZero {n = e} (omega arith)) (omega arith)
 
 bits-of : (l : List Bool) → bitOfByte (map one l) ≡ bitAt l
 bits-of l = fun-ext (λ v. ap (λ k. eqb k 1) (List·getD-map one l v false) ∙ go (bitAt l v))
@@ -78,6 +91,9 @@ module _ (G : Graph) (ok : Admitted G) (Nq : ℕ) (φ : Offsets) (small : Nq < 8
   received-levels : (t : ℕ) → levelIn (map byte (state G R t .checkMessages)) ≡ levelAt (state G R t .checkMessages)
   received-levels t = levels-of (state G R t .checkMessages) (λ e l. omega (arith, messages-within G ok Nq φ (levelIn y) t e (omega (arith, received-length t)) .1))
 
+  received-byte : (t : ℕ) {C : List ℕ} → C ≡ map byte (state G R t .checkMessages) → (e : ℕ) → getD C e 0 < 256
+  received-byte t e k = rw e (bytes-of (state G R t .checkMessages) (λ e l. omega (arith, messages-within G ok Nq φ (levelIn y) t e (omega (arith, received-length t)) .1)) k)
+
   sums-small : (t v : ℕ) → v < G .variables → natAbs (getD (state G R t .sums) v (pos 0)) ≤ 256 + 255 * limits .variableDegree
   sums-small t v l =
       let d : variableDegree G v ≤ limits .variableDegree = ok .variableDegrees v l .1 in
@@ -93,65 +109,70 @@ module _ (G : Graph) (ok : Admitted G) (Nq : ℕ) (φ : Offsets) (small : Nq < 8
     pub sum-small : (v : ℕ) → v < G .variables → natAbs (sumAt S v) < 2 ^ 30
     sum-small v l = omega (arith, ap natAbs (sum-is v l), sums-small t v l)
 
-  outgoing-at : (t : ℕ) {q C S b nine : List ℕ} → Holds G (state G R (suc t)) q C S b → nine ≡ tabulate (outgoingMagnitude Nq φ) 9 → (e : ℕ) → e < G .entries
-      → outgoingBy nine (sumAt S (G .column e) -ℤ contribution 1 (levelIn C e)) ≡ fromVariable G Nq φ (levelIn y) (levelAt (state G R (suc t) .checkMessages)) e
-  unfolding signPreserving state next iterated fromVariable
-  outgoing-at t {q} {C} {S} {b} {nine} holds is e u =
-      ap₂ outgoingBy is (ap₂ (λ s m. s -ℤ contribution 1 m) sum level ∙ sym (outgoing-is-rest G (levelIn y) σC e u))
-      ∙ by-nine Nq φ (outgoingSum G (levelIn y) σC e) small
-    where
-      σC : ℕ → Level
-      σC = levelAt (state G R (suc t) .checkMessages)
+  -- the lists of the run
+  module _ {parts : List ℤ} {messages : List ℕ} (lists : Lists Nq φ parts messages) where
+    -- what is sent at an entry
+    sent-at : (t : ℕ) {q C S b : List ℕ} → Holds G (state G R (suc t)) q C S b → (e : ℕ) → e < G .entries
+        → sentBy parts messages (G .column) S C e ≡ byte (fromVariable G Nq φ (levelIn y) (levelAt (state G R (suc t) .checkMessages)) e)
+    unfolding signPreserving state next iterated fromVariable
+    sent-at t {q} {C} {S} {b} holds e u =
+        sent-by (outgoing Nq φ) (λ b. contribution 1 (levelOf b)) (lists .outgoings) (outgoing-saturates Nq φ small) (lists .contributions) (G .column) S C e (received-byte (suc t) (holds .checkMessages) e)
+        ∙ ap (λ s. byte (outgoing Nq φ s)) (ap₂ (λ s m. s -ℤ contribution 1 m) sum level ∙ sym (outgoing-is-rest G (levelIn y) σC e u))
+      where
+        σC : ℕ → Level
+        σC = levelAt (state G R (suc t) .checkMessages)
 
-      sum : sumAt S (G .column e) ≡ posterior G (levelIn y) σC (G .column e)
-      sum = sum-is (suc t) holds (G .column e) (ok .within e u) ∙ getD-tabulate (posterior G (levelIn y) σC) (G .variables) (G .column e) (pos 0) (ok .within e u)
+        sum : sumAt S (G .column e) ≡ posterior G (levelIn y) σC (G .column e)
+        sum = sum-is (suc t) holds (G .column e) (ok .within e u) ∙ getD-tabulate (posterior G (levelIn y) σC) (G .variables) (G .column e) (pos 0) (ok .within e u)
 
-      level : levelIn C e ≡ σC e
-      level = ap (λ l. levelIn l e) (holds .checkMessages) ∙ ap (λ f. f e) (received-levels (suc t))
+        level : levelIn C e ≡ σC e
+        level = ap (λ l. levelIn l e) (holds .checkMessages) ∙ ap (λ f. f e) (received-levels (suc t))
 
-  -- the variable messages after the last step
-  sent-after : (t E : ℕ) {q C S b nine q₁ : List ℕ} → E ≡ G .entries → Holds G (state G R t) q C S b → nine ≡ tabulate (outgoingMagnitude Nq φ) 9
-      → q₁ ≡ whenSent (sends false t) q (tabulate (λ e. byte (outgoingBy nine (sumAt S (G .column e) -ℤ contribution 1 (levelIn C e)))) E)
-      → q₁ ≡ map byte (sent G R (state G R t))
-  unfolding signPreserving state begun next iterated sent sentIn
-  sent-after zero E k holds is e = e ∙ holds .variableMessages
-  sent-after (suc t) E {q} {C} {S} {b} {nine} k holds is e =
-      e ∙ sent-later t q (tabulate f₁ E) ∙ ap (tabulate f₁) k ∙ tabulate-ext f₁ (λ e. byte (f e)) (G .entries) (λ e u. ap byte (outgoing-at t holds is e u)) ∙ sym (map-tabulate byte f (G .entries))
-    where
-      f₁ : ℕ → ℕ
-      f₁ e = byte (outgoingBy nine (sumAt S (G .column e) -ℤ contribution 1 (levelIn C e)))
+    -- the variable messages after the last step
+    sent-after : (t E : ℕ) {q C S b q₁ : List ℕ} → E ≡ G .entries → Holds G (state G R t) q C S b
+        → q₁ ≡ whenSent (sends false t) q (tabulate (sentBy parts messages (G .column) S C) E)
+        → q₁ ≡ map byte (sent G R (state G R t))
+    unfolding signPreserving state begun next iterated sent sentIn
+    sent-after zero E k holds e = e ∙ holds .variableMessages
+    sent-after (suc t) E {q} {C} {S} {b} k holds e =
+        e ∙ sent-later t q (tabulate (sentBy parts messages (G .column) S C) E) ∙ ap (tabulate (sentBy parts messages (G .column) S C)) k
+        ∙ tabulate-ext (sentBy parts messages (G .column) S C) (λ e. byte (f e)) (G .entries) (sent-at t holds) ∙ sym (map-tabulate byte f (G .entries))
+      where
+        f : ℕ → Level
+        f = fromVariable G Nq φ (levelIn y) (levelAt (state G R (suc t) .checkMessages))
 
-      f : ℕ → Level
-      f = fromVariable G Nq φ (levelIn y) (levelAt (state G R (suc t) .checkMessages))
+    pub sent-holds : (t E : ℕ) {over done : Bool} {q C S b q₁ : List ℕ} → E ≡ G .entries → Holds G (state G R t) q C S b → over ≡ false → done ≡ sends over t
+        → q₁ ≡ whenSent done q (tabulate (sentBy parts messages (G .column) S C) E)
+        → q₁ ≡ map byte (sent G R (state G R t))
+    sent-holds t E k holds o d e = sent-after t E k holds (rw (d ∙ ap (λ o. sends o t) o) at e)
 
-  pub sent-holds : (t E : ℕ) {over done : Bool} {q C S b nine q₁ : List ℕ} → E ≡ G .entries → Holds G (state G R t) q C S b → nine ≡ tabulate (outgoingMagnitude Nq φ) 9
-      → over ≡ false → done ≡ sends over t
-      → q₁ ≡ whenSent done q (tabulate (λ e. byte (outgoingBy nine (sumAt S (G .column e) -ℤ contribution 1 (levelIn C e)))) E)
-      → q₁ ≡ map byte (sent G R (state G R t))
-  sent-holds t E k holds is o d e = sent-after t E k holds is (rw (d ∙ ap (λ o. sends o t) o) at e)
+    -- the sums of an iteration
+    sum-by : (t : ℕ) {C : List ℕ} → C ≡ map byte (state G R (suc t) .checkMessages) → (v : ℕ) → v < G .variables
+        → sumBy G (levelIn y) parts C v ≡ getD (state G R (suc t) .sums) v (pos 0)
+    unfolding signPreserving state next iterated posterior share
+    sum-by t {C} e v u =
+        ap (λ f. channelPart G (levelIn y) v +ℤ fold _+ℤ_ (pos 0) (shareIn (G .column) f v) 0 (G .entries)) (parts-are (λ b. contribution 1 (levelOf b)) C (lists .contributions) (received-byte (suc t) e))
+        ∙ ap (λ f. posterior G (levelIn y) f v) (ap levelIn e ∙ received-levels (suc t))
+        ∙ sym (getD-tabulate (posterior G (levelIn y) (levelAt (state G R (suc t) .checkMessages))) (G .variables) v (pos 0) u)
 
-  pub next-holds : (t : ℕ) {q C S b : List ℕ} → q ≡ map byte (sent G R (state G R t)) → Iterates G (levelIn y) (levelIn q) C S b → Holds G (state G R (t + 1)) q C S b
-  unfolding signPreserving state next iterated
-  next-holds t {q} {C} {S} {b} e it = subst (λ (k : ℕ). Holds G (state G R k) q C S b) (sym (add-one t)) (record {
-    variableMessages = e;
-    checkMessages = checks;
-    sums = it .sums ∙ table-ext 4 (λ v. ofZ w32 (posterior G (levelIn y) (levelIn C) v)) (λ v. ofZ w32 (getD (state G R (suc t) .sums) v (pos 0))) (G .variables)
-        (λ v u. ap (ofZ w32) (total v u));
-    bits = it .bits
-        ∙ tabulate-ext (λ v. one (bitOf (posterior G (levelIn y) (levelIn C) v) (levelIn y v .minus))) (λ v. one (bitOf (getD (state G R (suc t) .sums) v (pos 0)) (levelIn y v .minus))) (G .variables)
-        (λ v u. ap (λ s. one (bitOf s (levelIn y v .minus))) (total v u))
-        ∙ sym (map-tabulate one (λ v. bitOf (getD (state G R (suc t) .sums) v (pos 0)) (levelIn y v .minus)) (G .variables));
-  })
-    where
-      taken : levelIn q ≡ levelAt (sent G R (state G R t))
-      taken = ap levelIn e ∙ sent-levels t
+    pub next-holds : (t : ℕ) {q C S b : List ℕ} → q ≡ map byte (sent G R (state G R t)) → Iterates G (levelIn y) (levelIn q) parts C S b → Holds G (state G R (t + 1)) q C S b
+    unfolding signPreserving state next iterated
+    next-holds t {q} {C} {S} {b} e it = subst (λ (k : ℕ). Holds G (state G R k) q C S b) (sym (add-one t)) (record {
+      variableMessages = e;
+      checkMessages = checks;
+      sums = it .sums ∙ table-ext 4 (λ v. ofZ w32 (sumBy G (levelIn y) parts C v)) (λ v. ofZ w32 (getD (state G R (suc t) .sums) v (pos 0))) (G .variables)
+          (λ v u. ap (ofZ w32) (sum-by t checks v u));
+      bits = it .bits
+          ∙ tabulate-ext (λ v. one (bitOf (sumBy G (levelIn y) parts C v) (levelIn y v .minus))) (λ v. one (bitOf (getD (state G R (suc t) .sums) v (pos 0)) (levelIn y v .minus))) (G .variables)
+          (λ v u. ap (λ s. one (bitOf s (levelIn y v .minus))) (sum-by t checks v u))
+          ∙ sym (map-tabulate one (λ v. bitOf (getD (state G R (suc t) .sums) v (pos 0)) (levelIn y v .minus)) (G .variables));
+    })
+      where
+        taken : levelIn q ≡ levelAt (sent G R (state G R t))
+        taken = ap levelIn e ∙ sent-levels t
 
-      checks : C ≡ map byte (state G R (suc t) .checkMessages)
-      checks = it .checkMessages ∙ ap (λ f. tabulate (λ e. byte (fromCheck G f e)) (G .entries)) taken ∙ sym (map-tabulate byte (fromCheck G (levelAt (sent G R (state G R t)))) (G .entries))
-
-      total : (v : ℕ) → v < G .variables → posterior G (levelIn y) (levelIn C) v ≡ getD (state G R (suc t) .sums) v (pos 0)
-      total v u = ap (λ f. posterior G (levelIn y) f v) (ap levelIn checks ∙ received-levels (suc t))
-          ∙ sym (getD-tabulate (posterior G (levelIn y) (levelAt (state G R (suc t) .checkMessages))) (G .variables) v (pos 0) u)
+        checks : C ≡ map byte (state G R (suc t) .checkMessages)
+        checks = it .checkMessages ∙ ap (λ f. tabulate (λ e. byte (fromCheck G f e)) (G .entries)) taken ∙ sym (map-tabulate byte (fromCheck G (levelAt (sent G R (state G R t)))) (G .entries))
 
 -- ---- the stop
 
@@ -262,18 +283,13 @@ module _ {G : Graph} {R : Scheme} {limit : ℕ} {q₀ C₀ S₀ b₀ q C S b : L
         onward = onward-more G R (going .onward) (sym word-in ∙ or-none w (leb limit t) o .0);
       }
 
--- ---- the nine magnitudes
+-- ---- the lists of a run, and what the passes ask of them
 
-module _ (Nq : ℕ) (φ : Offsets) {nine : List ℕ} (is : nine ≡ tabulate (outgoingMagnitude Nq φ) 9) where
-  pub nine-long : length nine ≡ 9
-  nine-long = ap length is ∙ length-tabulate (outgoingMagnitude Nq φ) 9
+pub lists-parts : {Nq : ℕ} {φ : Offsets} {parts : List ℤ} {messages : List ℕ} → Lists Nq φ parts messages → Parts parts
+lists-parts l = parts-of (λ b. contribution 1 (levelOf b)) (l .contributions) contribution-small
 
-  pub nine-small : Nq < 8 → (k : ℕ) → getD nine k 0 < 128
-  nine-small h k = go (decLt k 9)
-    where
-      go : Dec (k < 9) → getD nine k 0 < 128
-      go (yes l) = omega (arith, ap (λ b. getD b k 0) is ∙ getD-tabulate (outgoingMagnitude Nq φ) 9 k 0 l, magnitude-within Nq φ k)
-      go (no l) = rw (List·getD-eq-default nine 0 {n = k} (omega (arith, nine-long))) (omega arith)
+pub lists-messages : {Nq : ℕ} {φ : Offsets} {parts : List ℤ} {messages : List ℕ} → Lists Nq φ parts messages → length messages ≡ 35
+lists-messages {Nq} {φ} l = ap length (l .outgoings) ∙ length-tabulate (λ k. byte (outgoing Nq φ (pos k -ℤ pos 17))) 35
 
 -- the largest magnitude of a message precision
 pub largest-small : (b : ℕ) → 2 ≤ b → b ≤ 4 → largest b < 8

@@ -11,18 +11,20 @@ use mir.Syntax.{w32}
 use mir.Val.{ofZ}
 use Rattle.rules.specs.Ranges.{fold, one, tabulate}
 use Rattle.rules.specs.Levels.{byte}
-use Rattle.rules.specs.Graphs.{limits, Admitted, variableDegree, checkOf}
-use Rattle.rules.specs.Nodes.{others, fromCheck, contribution, odd, extra, channelPart, share, posterior, bitOf}
+use Rattle.rules.specs.Graphs.{Admitted, variableDegree, checkOf}
+use Rattle.rules.specs.Nodes.{others, fromCheck, contribution, odd, extra, channelPart, bitOf}
 use Rattle.rules.proofs.Ranges.{tabulate-ext}
-use Rattle.rules.proofs.Bounds.{abs-contribution, posterior-bound}
-use Rattle.words.specs.Roles.{sumAt, sumTable, graphOf}
+use Rattle.rules.proofs.Bounds.{abs-contribution}
+use Rattle.words.specs.Roles.{columnAt, sumAt, sumTable, graphOf}
 use Rattle.words.proofs.Words.{table-ext, length-table}
 use Rattle.words.proofs.Signed.{sum-at-table}
-use Rattle.nodes.specs.Memory.{levelIn, onStarts, onColumns}
+use Rattle.nodes.specs.Memory.{levelIn, onStarts}
+use Rattle.nodes.specs.Lists.{Parts, partIn, shareIn}
 use Rattle.nodes.specs.Rows.{Rows}
 use Rattle.nodes.proofs.Leaves.{magnitude-small}
 use Rattle.nodes.proofs.Signed.{fits-abs}
-use Rattle.decoder.specs.Steps.{Sized, Iterates}
+use Rattle.nodes.proofs.SumLaws.{total, total-is, total-bound}
+use Rattle.decoder.specs.Steps.{Sized, sumBy, Iterates}
 
 -- a sum in a list of sums
 pub sum-in : (f : ℕ → ℤ) (n v : ℕ) → v < n → natAbs (f v) < 2 ^ 31 → sumAt (sumTable f n) v ≡ f v
@@ -45,16 +47,6 @@ module _ (n : ℕ) (starts columns : List ℕ) (ok : Admitted (graphOf n starts 
     rowed = record { begins = ok .begins; ends = refl; rises = λ i l. ok .checkDegrees i l .0 };
     all = ok .ends ∙ sym h;
   }
-
-  -- sums of levels and messages in bytes are small
-  pub posterior-small : (y C : List ℕ) (v : ℕ) → v < n → natAbs (posterior (graphOf n starts columns) (levelIn y) (levelIn C) v) ≤ 256 + 255 * limits .variableDegree
-  posterior-small y C v l =
-      let d : variableDegree (graphOf n starts columns) v ≤ limits .variableDegree = ok .variableDegrees v l .1 in
-      omega (
-        arith,
-        posterior-bound (graphOf n starts columns) (levelIn C) 127 (λ k _. magnitude-small (getD C k 0)) v 127 (levelIn y) (magnitude-small (getD y v 0)),
-        extra-small (variableDegree (graphOf n starts columns) v),
-      )
 
   -- the channel's parts, as they stand in the list of sums
   module _ {y d q C S b : List ℕ} (sized : Sized (graphOf n starts columns) y d q C S b) {S₁ : List ℕ}
@@ -82,21 +74,21 @@ module _ (n : ℕ) (starts columns : List ℕ) (ok : Admitted (graphOf n starts 
     part-length = ap length e₁ ∙ length-table 4 (λ v. ofZ w32 (contribution (extra (getD d v 0)) (levelIn y v))) (length y) ∙ ap (4 *_) (sized .levels)
 
     -- all four calls
-    pub iterated-is : {C₁ S₂ b₁ : List ℕ} → C₁ ≡ tabulate (λ e. byte (fromCheck (onStarts starts) (levelIn q) e)) (length q) → length C₁ ≡ length C
-        → S₂ ≡ sumTable (λ v. sumAt S₁ v +ℤ fold _+ℤ_ (pos 0) (share (onColumns columns) (levelIn C₁) v) 0 (length C₁)) (length S₁ / 4) ++ drop (4 * (length S₁ / 4)) S₁
+    pub iterated-is : {parts : List ℤ} → Parts parts → {C₁ S₂ b₁ : List ℕ} → C₁ ≡ tabulate (λ e. byte (fromCheck (onStarts starts) (levelIn q) e)) (length q) → length C₁ ≡ length C
+        → S₂ ≡ sumTable (λ v. sumAt S₁ v +ℤ fold _+ℤ_ (pos 0) (shareIn (columnAt columns) (partIn parts C₁) v) 0 (length C₁)) (length S₁ / 4) ++ drop (4 * (length S₁ / 4)) S₁
         → b₁ ≡ tabulate (λ v. one (bitOf (sumAt S₂ v) (levelIn y v .minus))) (length y)
-        → Iterates (graphOf n starts columns) (levelIn y) (levelIn q) C₁ S₂ b₁
-    unfolding fromCheck others checkOf posterior share
-    iterated-is {C₁} {S₂} {b₁} e₂ l e₃ e₄ = record {
+        → Iterates (graphOf n starts columns) (levelIn y) (levelIn q) parts C₁ S₂ b₁
+    unfolding fromCheck others checkOf
+    iterated-is {parts} p {C₁} {S₂} {b₁} e₂ l e₃ e₄ = record {
       checkMessages = e₂ ∙ ap (tabulate (λ e. byte (fromCheck (graphOf n starts columns) (levelIn q) e))) (sized .variableMessages);
       sums = sums-are;
       bits = e₄ ∙ ap (tabulate (λ v. one (bitOf (sumAt S₂ v) (levelIn y v .minus)))) (sized .levels)
-          ∙ tabulate-ext (λ v. one (bitOf (sumAt S₂ v) (levelIn y v .minus))) (λ v. one (bitOf (total v) (levelIn y v .minus))) n
-          (λ v u. ap (λ s. one (bitOf s (levelIn y v .minus))) (ap (λ s. sumAt s v) sums-are ∙ sum-in total n v u (omega (arith, posterior-small y C₁ v u))));
+          ∙ tabulate-ext (λ v. one (bitOf (sumAt S₂ v) (levelIn y v .minus))) (λ v. one (bitOf (sum v) (levelIn y v .minus))) n
+          (λ v u. ap (λ s. one (bitOf s (levelIn y v .minus))) (ap (λ s. sumAt s v) sums-are ∙ sum-in sum n v u (small v u)));
     }
       where
-        total : ℕ → ℤ
-        total v = posterior (graphOf n starts columns) (levelIn y) (levelIn C₁) v
+        sum : ℕ → ℤ
+        sum = sumBy (graphOf n starts columns) (levelIn y) parts C₁
 
         count : length S₁ / 4 ≡ n
         count = omega (arith, part-length)
@@ -104,9 +96,18 @@ module _ (n : ℕ) (starts columns : List ℕ) (ok : Admitted (graphOf n starts 
         rest : drop (4 * (length S₁ / 4)) S₁ ≡ []
         rest = drop-of-length-le S₁ {i = 4 * (length S₁ / 4)} (omega (arith, part-length))
 
-        sums-are : S₂ ≡ sumTable total n
+        f : ℕ → ℤ
+        f = partIn parts C₁
+
+        sum-is : (v : ℕ) → v < n → total columns f S₁ (length C₁) v ≡ sum v
+        sum-is v u = total-is columns f S₁ (length C₁) v ∙ ap₂ (λ s k. s +ℤ fold _+ℤ_ (pos 0) (shareIn (columnAt columns) f v) 0 k) (part-at v u) (l ∙ sized .checkMessages)
+
+        small : (v : ℕ) → v < n → natAbs (sum v) < 2 ^ 31
+        small v u = omega (arith, ap natAbs (sum-is v u), total-bound columns f S₁ (λ e. p .small (getD C₁ e 0)) (length C₁) v (part-small v u), l, sized .checkMessages, ok .entries)
+
+        sums-are : S₂ ≡ sumTable sum n
         sums-are =
-            e₃ ∙ ap₂ (λ (m : ℕ) t. sumTable (λ v. sumAt S₁ v +ℤ fold _+ℤ_ (pos 0) (share (onColumns columns) (levelIn C₁) v) 0 (length C₁)) m ++ t) count rest
-            ∙ append-nil (sumTable (λ v. sumAt S₁ v +ℤ fold _+ℤ_ (pos 0) (share (onColumns columns) (levelIn C₁) v) 0 (length C₁)) n)
-            ∙ table-ext 4 (λ v. ofZ w32 (sumAt S₁ v +ℤ fold _+ℤ_ (pos 0) (share (onColumns columns) (levelIn C₁) v) 0 (length C₁))) (λ v. ofZ w32 (total v)) n
-            (λ v u. ap (ofZ w32) (ap₂ (λ s k. s +ℤ fold _+ℤ_ (pos 0) (share (onColumns columns) (levelIn C₁) v) 0 k) (part-at v u) (l ∙ sized .checkMessages)))
+            e₃ ∙ ap₂ (λ (m : ℕ) t. sumTable (λ v. sumAt S₁ v +ℤ fold _+ℤ_ (pos 0) (shareIn (columnAt columns) f v) 0 (length C₁)) m ++ t) count rest
+            ∙ append-nil (sumTable (λ v. sumAt S₁ v +ℤ fold _+ℤ_ (pos 0) (shareIn (columnAt columns) f v) 0 (length C₁)) n)
+            ∙ table-ext 4 (λ v. ofZ w32 (sumAt S₁ v +ℤ fold _+ℤ_ (pos 0) (shareIn (columnAt columns) f v) 0 (length C₁))) (λ v. ofZ w32 (sum v)) n
+            (λ v u. ap (ofZ w32) (sym (total-is columns f S₁ (length C₁) v) ∙ sum-is v u))

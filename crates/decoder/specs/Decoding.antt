@@ -17,26 +17,21 @@ use Rattle.rules.specs.declared.Judged.the-variants as Judgement
 use Rattle.rules.specs.declared.Refusal.the-variants.{Length, Buffer}
 use Rattle.words.specs.Roles.{sumTable, graphOf}
 use Rattle.graph.specs.Judging.{graphJudged}
-use Rattle.channel.specs.declared.Scaling.{Scaling}
+use Rattle.channel.specs.declared.Parameters.{Parameters}
 use Rattle.channel.specs.Scaling.{factorOf}
 use Rattle.channel.specs.Settings.{settingsJudged}
 use Rattle.channel.specs.Values.{valuesJudged, channelLevel}
+use Rattle.decoder.specs.declared.Room.{Room}
 use Rattle.decoder.specs.declared.Decoded.{Decoded}
 use Rattle.decoder.specs.declared.Decoded.the-variants.{Ran, Refused}
 
--- One frame: the graph in its lists, the channel values, and the settings as they are given.
+-- One frame: the graph in its lists, the channel values, and what is asked of the run.
 pub record Frame : Type 0 where
   pub variables : ℕ
   pub starts : List ℕ
   pub columns : List ℕ
   pub values : List ℕ
-  pub scaling : Scaling
-  pub channel : ℕ
-  pub message : ℕ
-  pub phiS : ℕ
-  pub phiA : ℕ
-  pub phi0 : ℕ
-  pub limit : ℕ
+  pub asked : Parameters
 
 -- The lent memory: levels, both message lists, sums and bits.
 pub record Memory : Type 0 where
@@ -47,18 +42,11 @@ pub record Memory : Type 0 where
   pub bits : List ℕ
 
 -- Its lengths.
-pub record Room : Type 0 where
-  pub levels : ℕ
-  pub variableMessages : ℕ
-  pub checkMessages : ℕ
-  pub sums : ℕ
-  pub bits : ℕ
-
 abbrev pub roomOf : Memory → Room
 roomOf M = record {
   levels = length (M .levels);
-  variableMessages = length (M .variableMessages);
-  checkMessages = length (M .checkMessages);
+  «variable_messages» = length (M .variableMessages);
+  «check_messages» = length (M .checkMessages);
   sums = length (M .sums);
   bits = length (M .bits);
 }
@@ -66,7 +54,7 @@ roomOf M = record {
 -- 'Levels (n bytes), both message lists (E bytes each), sums (n) and bits (n bytes).' A sum is four bytes.
 abbrev pub enough : ℕ → ℕ → Room → Bool
 enough n E m =
-    leb n (m .levels) && (leb E (m .variableMessages) && (leb E (m .checkMessages) && (leb (4 * n) (m .sums) && leb n (m .bits))))
+    leb n (m .levels) && (leb E (m .«variable_messages») && (leb E (m .«check_messages») && (leb (4 * n) (m .sums) && leb n (m .bits))))
 
 -- What the memory holds after a run on n variables and E entries with the channel levels y, that ends in the state σ. 'Bytes past these
 -- lengths do not change.'
@@ -85,14 +73,14 @@ module _ (F : Frame) where
 
   -- The channel level of each variable.
   abbrev pub levels : ℕ → Level
-  levels v = channelLevel (largest (F .channel)) (factorOf (F .scaling)) (F .values) v
+  levels v = channelLevel (largest (F .asked .channel)) (factorOf (F .asked .scaling)) (F .values) v
 
   abbrev pub offsetsOf : Offsets
-  offsetsOf = record { phiS = F .phiS; phiA = F .phiA; phi0 = F .phi0 }
+  offsetsOf = record { phiS = F .asked .«phi_s»; phiA = F .asked .«phi_a»; phi0 = F .asked .«phi_0» }
 
   -- The rules of the run.
   abbrev pub scheme : Scheme
-  scheme = signPreserving graph (largest (F .message)) offsetsOf levels
+  scheme = signPreserving graph (largest (F .asked .message)) offsetsOf levels
 
   -- 'The graph's five; 13, other than n values (their number); 8, precisions not admitted; 9, an offset above 1 or limit above 255; 10, gain or
   -- variance not finite and above zero; 11, factor infinite or zero; 12, a value infinite or NaN (first index).'
@@ -100,7 +88,7 @@ module _ (F : Frame) where
   frameJudged =
       orElse (graphJudged limits graph)
       (orElse (unless (eqb (length (F .values) / 4) (F .variables)) (Length (length (F .values) / 4)))
-      (orElse (settingsJudged (F .scaling) (F .channel) (F .message) (F .phiS) (F .phiA) (F .phi0) (F .limit))
+      (orElse (settingsJudged (F .asked))
       (valuesJudged (F .values))))
 
   -- '6, a lent buffer too short.'
@@ -109,11 +97,11 @@ module _ (F : Frame) where
 
   -- The answer, and the memory afterwards: 'every refusal changes no lent byte'.
   abbrev pub decoded : Judged → Decoded
-  decoded Judgement.Admitted = Ran (report graph scheme (F .limit))
+  decoded Judgement.Admitted = Ran (report graph scheme (F .asked .limit))
   decoded (Judgement.Refused r) = Refused r
 
   abbrev pub memoryAfter : Judged → Memory → Memory
-  memoryAfter Judgement.Admitted M = filled (F .variables) (graph .entries) levels (final graph scheme (F .limit)) M
+  memoryAfter Judgement.Admitted M = filled (F .variables) (graph .entries) levels (final graph scheme (F .asked .limit)) M
   memoryAfter (Judgement.Refused r) M = M
 
 -- What decode promises of its answer r and of the memory, M before and M′ after.

@@ -1,23 +1,12 @@
--- Frames, memory and lengths from the parameters of a call.
+-- Frames, memory and its lengths from the parameters of a call.
 use mathlib.Core.List.{List}
 use Prim.Native.Nat.{ℕ}
-use Rattle.channel.specs.declared.Scaling.{Scaling}
-use Rattle.decoder.specs.Decoding.{Frame, Memory, Room}
+use Rattle.channel.specs.declared.Parameters.{Parameters}
+use Rattle.decoder.specs.declared.Room.{Room}
+use Rattle.decoder.specs.Decoding.{Frame, Memory}
 
-abbrev pub frame : ℕ → List ℕ → List ℕ → List ℕ → Scaling → ℕ → ℕ → ℕ → ℕ → ℕ → ℕ → Frame
-frame n starts columns values scaling channel message phiS phiA phi0 limit = record {
-  variables = n;
-  starts = starts;
-  columns = columns;
-  values = values;
-  scaling = scaling;
-  channel = channel;
-  message = message;
-  phiS = phiS;
-  phiA = phiA;
-  phi0 = phi0;
-  limit = limit;
-}
+abbrev pub frame : ℕ → List ℕ → List ℕ → List ℕ → Parameters → Frame
+frame n starts columns values asked = record { variables = n; starts = starts; columns = columns; values = values; asked = asked }
 
 abbrev pub memory : List ℕ → List ℕ → List ℕ → List ℕ → List ℕ → Memory
 memory levels variableMessages checkMessages sums bits = record {
@@ -31,8 +20,8 @@ memory levels variableMessages checkMessages sums bits = record {
 abbrev pub room : ℕ → ℕ → ℕ → ℕ → ℕ → Room
 room levels variableMessages checkMessages sums bits = record {
   levels = levels;
-  variableMessages = variableMessages;
-  checkMessages = checkMessages;
+  «variable_messages» = variableMessages;
+  «check_messages» = checkMessages;
   sums = sums;
   bits = bits;
 }

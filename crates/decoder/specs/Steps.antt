@@ -5,22 +5,23 @@ use mathlib.Core.List.{List, map}
 use Prim.Native.Nat.{ℕ, _*_, _/_, _≤_, _<_}
 use lib.Dec.{eqb}
 use lib.Ieee.{Float}
-use lib.IntN.{pos}
+use lib.IntN.{ℤ, pos, _+ℤ_, _-ℤ_}
 use lib.ListN.{length, getD}
-use Rattle.rules.specs.Ranges.{one, tabulate}
-use Rattle.rules.specs.Levels.{Level, byte, largest}
+use Rattle.rules.specs.Ranges.{fold, one, tabulate}
+use Rattle.rules.specs.Levels.{Level, byte, levelOf, largest}
 use Rattle.rules.specs.Graphs.{Graph, Admitted, variableDegree}
-use Rattle.rules.specs.Nodes.{Offsets, firstMessage, firstBit, posterior, fromCheck, bitOf}
-use Rattle.rules.specs.Sequence.{Scheme, State, signPreserving, final, report}
+use Rattle.rules.specs.Nodes.{Offsets, firstMessage, firstBit, fromCheck, contribution, channelPart, bitOf, outgoing}
+use Rattle.rules.specs.Sequence.{Scheme, State, signPreserving, begun, final, report}
 use Rattle.rules.specs.declared.Judged.the-variants as Judgement
 use Rattle.rules.specs.declared.Report.{Report}
 use Rattle.rules.specs.declared.Verdict.the-variants.{Codeword, Stopped}
-use Rattle.words.specs.Roles.{sumTable, graphOf}
+use Rattle.words.specs.Roles.{sumTable}
 use Rattle.channel.specs.declared.Settings.{Settings}
 use Rattle.channel.specs.Values.{valuesJudged, channelLevel}
 use Rattle.channel.specs.Theorems.{Admissible}
-use Rattle.decoder.specs.Decoding.{Room, Memory, filled}
+use Rattle.decoder.specs.declared.Room.{Room}
 use Rattle.nodes.specs.Memory.{levelIn, onColumns}
+use Rattle.nodes.specs.Lists.{partIn, shareIn}
 
 -- The lists q, C, S and b hold the state σ, in bytes.
 pub record Holds (G : Graph) (σ : State) (q C S b : List ℕ) : Type 0 where
@@ -40,11 +41,15 @@ pub record Sized (G : Graph) (y d q C S b : List ℕ) : Type 0 where
   pub sums : length S ≡ 4 * G .variables
   pub bits : length b ≡ G .variables
 
--- C, S and b are what an iteration makes of the channel levels y and the variable messages q.
-pub record Iterates (G : Graph) (y q : ℕ → Level) (C S b : List ℕ) : Type 0 where
+-- The posterior sum of variable v by a list of parts for the bytes of the check messages C.
+abbrev pub sumBy : Graph → (ℕ → Level) → List ℤ → List ℕ → ℕ → ℤ
+sumBy G y parts C v = channelPart G y v +ℤ fold _+ℤ_ (pos 0) (shareIn (G .column) (partIn parts C) v) 0 (G .entries)
+
+-- C, S and b are what an iteration makes of the channel levels y and the variable messages q, by a list of parts.
+pub record Iterates (G : Graph) (y q : ℕ → Level) (parts : List ℤ) (C S b : List ℕ) : Type 0 where
   pub checkMessages : C ≡ tabulate (λ e. byte (fromCheck G q e)) (G .entries)
-  pub sums : S ≡ sumTable (posterior G y (levelIn C)) (G .variables)
-  pub bits : b ≡ tabulate (λ v. one (bitOf (posterior G y (levelIn C) v) (y v .minus))) (G .variables)
+  pub sums : S ≡ sumTable (sumBy G y parts C) (G .variables)
+  pub bits : b ≡ tabulate (λ v. one (bitOf (sumBy G y parts C v) (y v .minus))) (G .variables)
 
 -- What iteration 0 makes of the values; E and s are the lengths of the lists of check messages and of sums.
 pub record Begins (values : List ℕ) (factor : Float) (Nch Nq : ℕ) (columns : List ℕ) (E s : ℕ) (y q C S b : List ℕ) : Type 0 where
@@ -66,40 +71,50 @@ whenSent done q q′ = cond done q′ q
 abbrev pub reportAt : ℕ → ℕ → Report
 reportAt t k = record { verdict = cond (eqb k 0) Codeword Stopped; iterations = t; unsatisfied = k }
 
--- The offsets of settings.
+-- The rules of a run under checked settings, from the channel levels y.
 abbrev pub offsetsIn : Settings → Offsets
 offsetsIn s = record { phiS = s .«phi_s»; phiA = s .«phi_a»; phi0 = s .«phi_0» }
 
--- What a run by the rules R with a limit reports, and the state that the lists then hold.
+abbrev pub rulesUnder : Settings → Graph → (ℕ → Level) → Scheme
+rulesUnder s G y = signPreserving G (largest (s .message)) (offsetsIn s) y
+
+-- The lists that a run makes once: the contribution of every message byte, and the messages of the outgoing sums from -17 to 17.
+pub record Lists (Nq : ℕ) (φ : Offsets) (parts : List ℤ) (messages : List ℕ) : Type 0 where
+  pub contributions : parts ≡ tabulate (λ b. contribution 1 (levelOf b)) 256
+  pub outgoings : messages ≡ tabulate (λ k. byte (outgoing Nq φ (pos k -ℤ pos 17))) 35
+
+-- Ready for the run: iteration 0 in memory of the right lengths.
+pub record Begun (s : Settings) (G : Graph) (y d q C S b : List ℕ) : Type 0 where
+  pub settings : Admissible s
+  pub sized : Sized G y d q C S b
+  pub holds : Holds G (begun G (rulesUnder s G (levelIn y))) q C S b
+
+-- What the run reports, and the state that the lists then hold.
 pub record Runs (G : Graph) (R : Scheme) (limit : ℕ) (r : Report) (q C S b : List ℕ) : Type 0 where
   pub report : r ≡ report G R limit
   pub holds : Holds G (final G R limit) q C S b
 
+-- The same under settings, from the channel levels y, to their limit.
+abbrev pub RunsUnder : Settings → Graph → (ℕ → Level) → Report → List ℕ → List ℕ → List ℕ → List ℕ → Type 0
+RunsUnder s G y r q C S b = Runs G (rulesUnder s G y) (s .limit) r q C S b
+
 -- Checked settings, on an admitted graph, with a finite value for each variable.
-pub record Ready (s : Settings) (n : ℕ) (starts columns values : List ℕ) : Type 0 where
+pub record Ready (s : Settings) (G : Graph) (values : List ℕ) : Type 0 where
   pub settings : Admissible s
-  pub admitted : Admitted (graphOf n starts columns)
-  pub count : length values / 4 ≡ n
+  pub admitted : Admitted G
+  pub count : length values / 4 ≡ G .variables
   pub finite : valuesJudged values ≡ Judgement.Admitted
 
 -- Memory of exactly the right lengths.
-abbrev pub exact : ℕ → List ℕ → Room → Type 0
-exact n columns m =
-    (m .levels ≡ n) × (m .variableMessages ≡ length columns / 2) × (m .checkMessages ≡ length columns / 2) × (m .sums ≡ 4 * n) × (m .bits ≡ n)
+abbrev pub exact : Graph → Room → Type 0
+exact G m =
+    (m .levels ≡ G .variables) × (m .«variable_messages» ≡ G .entries) × (m .«check_messages» ≡ G .entries) × (m .sums ≡ 4 * G .variables) × (m .bits ≡ G .variables)
 
--- The channel levels of values under checked settings, and the rules from them.
+-- The channel levels of values under checked settings.
 abbrev pub levelsUnder : Settings → List ℕ → ℕ → Level
 levelsUnder s values v = channelLevel (largest (s .channel)) (s .factor) values v
 
-abbrev pub schemeUnder : Settings → ℕ → List ℕ → List ℕ → List ℕ → Scheme
-schemeUnder s n starts columns values = signPreserving (graphOf n starts columns) (largest (s .message)) (offsetsIn s) (levelsUnder s values)
-
 -- What the run of a frame reports, and the lists y, q, C, S and b afterwards.
-pub record RunsFrom (s : Settings) (n : ℕ) (starts columns values : List ℕ) (r : Report) (y q C S b : List ℕ) : Type 0 where
-  pub levels : y ≡ tabulate (λ v. byte (levelsUnder s values v)) n
-  pub runs : Runs (graphOf n starts columns) (schemeUnder s n starts columns values) (s .limit) r q C S b
-
--- The same in memory that may be longer: M before, M′ after. Bytes past the lists stay.
-pub record RunsInto (s : Settings) (n : ℕ) (starts columns values : List ℕ) (r : Report) (M M′ : Memory) : Type 0 where
-  pub report : r ≡ report (graphOf n starts columns) (schemeUnder s n starts columns values) (s .limit)
-  pub memory : M′ ≡ filled n (length columns / 2) (levelsUnder s values) (final (graphOf n starts columns) (schemeUnder s n starts columns values) (s .limit)) M
+pub record RunsFrom (s : Settings) (G : Graph) (values : List ℕ) (r : Report) (y q C S b : List ℕ) : Type 0 where
+  pub levels : y ≡ tabulate (λ v. byte (levelsUnder s values v)) (G .variables)
+  pub runs : RunsUnder s G (levelsUnder s values) r q C S b

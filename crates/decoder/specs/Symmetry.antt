@@ -15,13 +15,7 @@ reversedBy c F = record {
   starts = F .starts;
   columns = F .columns;
   values = reversed c (F .values);
-  scaling = F .scaling;
-  channel = F .channel;
-  message = F .message;
-  phiS = F .phiS;
-  phiA = F .phiA;
-  phi0 = F .phi0;
-  limit = F .limit;
+  asked = F .asked;
 }
 
 -- 'Its graph, settings and values are accepted where decode, lent long enough buffers, refuses nothing.'
@@ -32,7 +26,7 @@ pub record Twins (F : Frame) (c : ℕ → Bool) : Type 0 where
   -- the reversed frame is accepted too
   pub accepted : Accepted (reversedBy c F)
   -- c is a codeword exactly when every iteration is mirrored; for a codeword the runs agree whatever the limit; no outgoing sum is zero
-  pub symmetric : Symmetric (graph F) (largest (F .message)) (offsetsOf F) c (levels F) (levels (reversedBy c F))
+  pub symmetric : Symmetric (graph F) (largest (F .asked .message)) (offsetsOf F) c (levels F) (levels (reversedBy c F))
 
 abbrev pub Demand3 : Type 0
 Demand3 = (F : Frame) → Bytes (F .values) → Accepted F → (c : ℕ → Bool) → Twins F c

@@ -1,12 +1,12 @@
 -- Document 01, 'Trial values': every ★ case, and the whole example with its variants from their values, gathered under one table test.
-use mathlib.Core.Path.{_≡_}
-use mathlib.Core.Bool.{Bool, true, false, cond}
+use mathlib.Core.Bool.{Bool, true, false}
 use mathlib.Core.List.{List, [], _∷_, _++_, map}
-use Prim.Native.Nat.{ℕ, suc}
+use Prim.Native.Nat.{ℕ}
 use lib.Ieee.{binary32, ofBits}
+use Rattle.rules.specs.Tables.{AllPass, sameList}
 use Rattle.rules.specs.Sequence.{final, report}
 use Rattle.rules.specs.Trials as Nodes
-use Rattle.rules.specs.Trials.{verdictNumber, bitNumbers, sameList}
+use Rattle.rules.specs.Trials.{verdictNumber, bitNumbers}
 use Rattle.rules.specs.declared.Report.{Report}
 use Rattle.rules.specs.declared.Verdict.{Verdict}
 use Rattle.rules.specs.declared.Verdict.the-variants.{Codeword, Stopped}
@@ -32,7 +32,8 @@ inBytes w (x ∷ xs) = bytes w x ++ inBytes w xs
 -- 'Sheet lines .. `0 0`, `0 1`, `1 1`, `1 2`. Run text lines .. `3f800000 3 3 1 1 0 5`.'
 unfoldable pub example : List ℕ → ℕ → Frame
 example values limit =
-    frame 3 (inBytes 2 (0 ∷ 2 ∷ 4 ∷ [])) (inBytes 2 (0 ∷ 1 ∷ 1 ∷ 2 ∷ [])) (inBytes 4 values) (Plain (ofBits binary32 0x3f80_0000)) 3 3 1 1 0 limit
+    frame 3 (inBytes 2 (0 ∷ 2 ∷ 4 ∷ [])) (inBytes 2 (0 ∷ 1 ∷ 1 ∷ 2 ∷ [])) (inBytes 4 values)
+    (record { scaling = Plain (ofBits binary32 0x3f80_0000); channel = 3; message = 3; «phi_s» = 1; «phi_a» = 1; «phi_0» = 0; limit = limit })
 
 unfoldable pub trials : List Trial
 trials =
@@ -51,11 +52,5 @@ passes (decodes values limit verdict t u b) =
     let r : Report = report (graph F) (scheme F) limit in
     sameList (verdictNumber (r .verdict) ∷ r .iterations ∷ r .unsatisfied ∷ bitNumbers (final (graph F) (scheme F) limit .bits)) (verdictNumber verdict ∷ t ∷ u ∷ bitNumbers b)
 
--- The rows of a table that fail, counted from k.
-unfoldable pub failures : ℕ → List Trial → List ℕ
-failures k [] = []
-failures k (t ∷ ts) = cond (passes t) (failures (suc k) ts) (k ∷ failures (suc k) ts)
-
--- Every trial passes.
 abbrev pub TrialsPass : Type 0
-TrialsPass = failures 1 trials ≡ []
+TrialsPass = AllPass passes trials

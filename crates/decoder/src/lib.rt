@@ -1,21 +1,16 @@
 // Decodes one frame.
 ghost use mathlib.Core.Path.{_≡_};
-ghost use mathlib.Core.Bool.{true};
-ghost use Prim.Native.Nat.{_*_, _/_, _≤_};
-ghost use lib.ListN.{length};
+ghost use Prim.Native.Nat.{_≤_};
 ghost use Rattle.rules.specs.Levels.{largest};
 ghost use Rattle.rules.specs.Graphs.{limits};
-ghost use Rattle.rules.specs.Sequence.{signPreserving, begun};
-ghost use Rattle.channel.specs.Theorems.{Admissible};
 ghost use Rattle.channel.specs.Settings.{settings, checked};
-ghost use Rattle.rules.specs.declared.Judged.the-variants as Judgement;
-ghost use Rattle.decoder.specs.Frames.{frame, memory, room};
+ghost use Rattle.decoder.specs.Frames.{frame, memory};
 ghost use Rattle.words.specs.Roles.{graphOf};
 ghost use Rattle.nodes.specs.Memory.{levelIn};
-ghost use Rattle.decoder.specs.Decoding.{Decodes, enough, decodeJudged};
-ghost use Rattle.decoder.specs.Steps.{Holds, Sized, sends, reportAt, Runs, offsetsIn, Ready, exact, RunsFrom, RunsInto};
+ghost use Rattle.decoder.specs.Decoding.{Decodes, enough, decodeJudged, roomOf};
+ghost use Rattle.decoder.specs.Steps.{Begun, sends, reportAt, RunsUnder, Ready, exact, RunsFrom};
 use channel::Checked;
-use channel::Scaling;
+use channel::Parameters;
 use channel::Settings;
 use rules::Judged;
 use rules::Refusal;
@@ -23,6 +18,15 @@ use rules::Report;
 use rules::Verdict;
 
 mod step; // the steps of a run
+
+// The lengths of the lent memory, in bytes.
+pub struct Room {
+    pub levels: usize,
+    pub variable_messages: usize,
+    pub check_messages: usize,
+    pub sums: usize,
+    pub bits: usize,
+}
 
 // The report of a run, or the refusal.
 pub enum Decoded {
@@ -68,11 +72,11 @@ fn run(
     sums: &mut [u8],
     bits: &mut [u8],
 ) -> Report
-    requires { ⌜ Admissible s × Sized (graphOf n (now starts) (now columns)) (now levels) (now degrees) (now «variable_messages») (now «check_messages») (now sums) (now bits) ⌝ }
-    requires { ⌜ Holds (graphOf n (now starts) (now columns)) (begun (graphOf n (now starts) (now columns)) (signPreserving (graphOf n (now starts) (now columns)) (largest (s .message)) (offsetsIn s) (levelIn (now levels)))) (now «variable_messages») (now «check_messages») (now sums) (now bits) ⌝ }
-    ensures { λ r. ⌜ Runs (graphOf n (now (starts .entry)) (now (columns .entry))) (signPreserving (graphOf n (now (starts .entry)) (now (columns .entry))) (largest (s .message)) (offsetsIn s) (levelIn (now (levels .entry)))) (s .limit) r (now («variable_messages» .exit)) (now («check_messages» .exit)) (now (sums .exit)) (now (bits .exit)) ⌝ }
+    requires { ⌜ Begun s (graphOf n (now starts) (now columns)) (now levels) (now degrees) (now «variable_messages») (now «check_messages») (now sums) (now bits) ⌝ }
+    ensures { λ r. ⌜ RunsUnder s (graphOf n (now (starts .entry)) (now (columns .entry))) (levelIn (now (levels .entry))) r (now («variable_messages» .exit)) (now («check_messages» .exit)) (now (sums .exit)) (now (bits .exit)) ⌝ }
 {
-    let nine = nodes::variable::magnitudes(s.message, s.phi_s, s.phi_a, s.phi_0);
+    let parts = nodes::sums::contributions();
+    let messages = nodes::variable::outgoing_messages(s.message, s.phi_s, s.phi_a, s.phi_0);
     let mut t: usize = 0;
     loop {
         let codeword = syndrome::is_codeword(n, starts, columns, bits);
@@ -82,7 +86,8 @@ fn run(
             columns,
             check_messages,
             sums,
-            &nine,
+            &parts,
+            &messages,
             variable_messages,
         );
         if over {
@@ -94,6 +99,7 @@ fn run(
             columns,
             levels,
             degrees,
+            &parts,
             variable_messages,
             check_messages,
             sums,
@@ -103,43 +109,26 @@ fn run(
     }
 }
 
-// Whether the lent memory is long enough for n variables and e entries.
-fn long_enough(
-    n: usize,
-    e: usize,
-    levels: usize,
-    variable_messages: usize,
-    check_messages: usize,
-    sums: usize,
-    bits: usize,
-) -> bool
+// Whether lent memory of these lengths is long enough for n variables and e entries.
+fn long_enough(n: usize, e: usize, room: Room) -> bool
     requires { ⌜ n ≤ limits .variables ⌝ }
-    ensures { λ r. ⌜ r ≡ enough n e (room levels «variable_messages» «check_messages» sums bits) ⌝ }
+    ensures { λ r. ⌜ r ≡ enough n e room ⌝ }
 {
-    (n <= levels)
-        & ((e <= variable_messages) & ((e <= check_messages) & ((4 * n <= sums) & (n <= bits))))
+    (n <= room.levels)
+        & ((e <= room.variable_messages)
+            & ((e <= room.check_messages) & ((4 * n <= room.sums) & (n <= room.bits))))
 }
 
-// The settings of a frame, or why it is turned down: memory is given by its lengths.
+// The settings of a frame, or why it is turned down where memory of these lengths is lent.
 pub fn accept(
     n: usize,
     starts: &[u8],
     columns: &[u8],
     values: &[u8],
-    scaling: Scaling,
-    channel: u32,
-    message: u32,
-    phi_s: u32,
-    phi_a: u32,
-    phi_0: u32,
-    limit: u32,
-    levels: usize,
-    variable_messages: usize,
-    check_messages: usize,
-    sums: usize,
-    bits: usize,
+    asked: Parameters,
+    room: Room,
 ) -> Checked
-    ensures { λ r. ⌜ r ≡ checked (decodeJudged (frame n (now (starts .entry)) (now (columns .entry)) (now (values .entry)) scaling channel message «phi_s» «phi_a» «phi_0» limit) (room levels «variable_messages» «check_messages» sums bits)) (settings scaling channel message «phi_s» «phi_a» «phi_0» limit) ⌝ }
+    ensures { λ r. ⌜ r ≡ checked (decodeJudged (frame n (now (starts .entry)) (now (columns .entry)) (now (values .entry)) asked) room) (settings asked) ⌝ }
 {
     let j = graph::check(n, starts, columns);
     if let Judged::Refused(r) = j {
@@ -149,7 +138,7 @@ pub fn accept(
     if count != n {
         return Checked::Refused(Refusal::Length(count));
     }
-    let c = channel::check_settings(scaling, channel, message, phi_s, phi_a, phi_0, limit);
+    let c = channel::check_settings(asked);
     if let Checked::Refused(r) = c {
         return Checked::Refused(r);
     }
@@ -157,15 +146,7 @@ pub fn accept(
     if let Judged::Refused(r) = j {
         return Checked::Refused(r);
     }
-    if !long_enough(
-        n,
-        columns.len() / 2,
-        levels,
-        variable_messages,
-        check_messages,
-        sums,
-        bits,
-    ) {
+    if !long_enough(n, columns.len() / 2, room) {
         return Checked::Refused(Refusal::Buffer);
     }
     c
@@ -185,7 +166,7 @@ fn largest(bits: u8) -> u8
     7
 }
 
-// Decodes an accepted frame in memory of exactly the right lengths.
+// Decodes an accepted frame, in memory of exactly the right lengths.
 fn decode_exactly(
     s: Settings,
     n: usize,
@@ -198,9 +179,9 @@ fn decode_exactly(
     sums: &mut [u8],
     bits: &mut [u8],
 ) -> Report
-    requires { ⌜ Ready s n (now starts) (now columns) (now values) ⌝ }
-    requires { ⌜ exact n (now columns) (room (length (now levels)) (length (now «variable_messages»)) (length (now «check_messages»)) (length (now sums)) (length (now bits))) ⌝ }
-    ensures { λ r. ⌜ RunsFrom s n (now (starts .entry)) (now (columns .entry)) (now (values .entry)) r (now (levels .exit)) (now («variable_messages» .exit)) (now («check_messages» .exit)) (now (sums .exit)) (now (bits .exit)) ⌝ }
+    requires { ⌜ Ready s (graphOf n (now starts) (now columns)) (now values) ⌝ }
+    requires { ⌜ exact (graphOf n (now starts) (now columns)) (roomOf (memory (now levels) (now «variable_messages») (now «check_messages») (now sums) (now bits))) ⌝ }
+    ensures { λ r. ⌜ RunsFrom s (graphOf n (now (starts .entry)) (now (columns .entry))) (now (values .entry)) r (now (levels .exit)) (now («variable_messages» .exit)) (now («check_messages» .exit)) (now (sums .exit)) (now (bits .exit)) ⌝ }
 {
     let mut degrees = [0u16; rules::MOST_VARIABLES];
     graph::count_degrees(columns, &mut degrees);
@@ -232,92 +213,45 @@ fn decode_exactly(
     )
 }
 
-// Decodes an accepted frame in memory that is long enough.
-fn decode_accepted(
-    s: Settings,
-    n: usize,
-    starts: &[u8],
-    columns: &[u8],
-    values: &[u8],
-    levels: &mut [u8],
-    variable_messages: &mut [u8],
-    check_messages: &mut [u8],
-    sums: &mut [u8],
-    bits: &mut [u8],
-) -> Report
-    requires { ⌜ Ready s n (now starts) (now columns) (now values) ⌝ }
-    requires { ⌜ enough n (length (now columns) / 2) (room (length (now levels)) (length (now «variable_messages»)) (length (now «check_messages»)) (length (now sums)) (length (now bits))) ≡ true ⌝ }
-    ensures { λ r. ⌜ RunsInto s n (now (starts .entry)) (now (columns .entry)) (now (values .entry)) r (memory (now (levels .entry)) (now («variable_messages» .entry)) (now («check_messages» .entry)) (now (sums .entry)) (now (bits .entry))) (memory (now (levels .exit)) (now («variable_messages» .exit)) (now («check_messages» .exit)) (now (sums .exit)) (now (bits .exit))) ⌝ }
-{
-    let e = columns.len() / 2;
-    let w = 4 * n;
-    decode_exactly(
-        s,
-        n,
-        starts,
-        columns,
-        values,
-        &mut levels[..n],
-        &mut variable_messages[..e],
-        &mut check_messages[..e],
-        &mut sums[..w],
-        &mut bits[..n],
-    )
-}
-
 // Decodes a frame: the report and the state of the run in the lent memory, or the refusal and the memory as it was.
 pub fn decode(
     n: usize,
     starts: &[u8],
     columns: &[u8],
     values: &[u8],
-    scaling: Scaling,
-    channel: u32,
-    message: u32,
-    phi_s: u32,
-    phi_a: u32,
-    phi_0: u32,
-    limit: u32,
+    asked: Parameters,
     levels: &mut [u8],
     variable_messages: &mut [u8],
     check_messages: &mut [u8],
     sums: &mut [u8],
     bits: &mut [u8],
 ) -> Decoded
-    ensures { λ r. ⌜ Decodes (frame n (now (starts .entry)) (now (columns .entry)) (now (values .entry)) scaling channel message «phi_s» «phi_a» «phi_0» limit) (memory (now (levels .entry)) (now («variable_messages» .entry)) (now («check_messages» .entry)) (now (sums .entry)) (now (bits .entry))) (memory (now (levels .exit)) (now («variable_messages» .exit)) (now («check_messages» .exit)) (now (sums .exit)) (now (bits .exit))) r ⌝ }
+    ensures { λ r. ⌜ Decodes (frame n (now (starts .entry)) (now (columns .entry)) (now (values .entry)) asked) (memory (now (levels .entry)) (now («variable_messages» .entry)) (now («check_messages» .entry)) (now (sums .entry)) (now (bits .entry))) (memory (now (levels .exit)) (now («variable_messages» .exit)) (now («check_messages» .exit)) (now (sums .exit)) (now (bits .exit))) r ⌝ }
 {
-    let c = accept(
-        n,
-        starts,
-        columns,
-        values,
-        scaling,
-        channel,
-        message,
-        phi_s,
-        phi_a,
-        phi_0,
-        limit,
-        levels.len(),
-        variable_messages.len(),
-        check_messages.len(),
-        sums.len(),
-        bits.len(),
-    );
+    let room = Room {
+        levels: levels.len(),
+        variable_messages: variable_messages.len(),
+        check_messages: check_messages.len(),
+        sums: sums.len(),
+        bits: bits.len(),
+    };
+    let c = accept(n, starts, columns, values, asked, room);
     match c {
         Checked::Refused(r) => Decoded::Refused(r),
         Checked::Good(s) => {
-            let o = decode_accepted(
+            let e = columns.len() / 2;
+            let w = 4 * n;
+            let o = decode_exactly(
                 s,
                 n,
                 starts,
                 columns,
                 values,
-                levels,
-                variable_messages,
-                check_messages,
-                sums,
-                bits,
+                &mut levels[..n],
+                &mut variable_messages[..e],
+                &mut check_messages[..e],
+                &mut sums[..w],
+                &mut bits[..n],
             );
             Decoded::Ran(o)
         }

@@ -1,16 +1,14 @@
 // The steps of a run, on memory of exactly the right lengths.
 ghost use mathlib.Core.Path.{_≡_};
 ghost use Prim.Native.Nat.{ℕ, _/_, _<_, _^_};
-ghost use lib.IntN.{natAbs, _-ℤ_};
-ghost use lib.ListN.{length, getD};
+ghost use lib.IntN.{natAbs};
+ghost use lib.ListN.{length};
 ghost use Rattle.rules.specs.Ranges.{tabulate};
-ghost use Rattle.rules.specs.Levels.{byte};
-ghost use Rattle.rules.specs.Nodes.{contribution};
 ghost use Rattle.rules.specs.declared.Judged.the-variants.{Admitted};
 ghost use Rattle.words.specs.Roles.{columnAt, sumAt, graphOf};
 ghost use Rattle.channel.specs.Values.{valuesJudged};
 ghost use Rattle.nodes.specs.Memory.{levelIn};
-ghost use Rattle.nodes.specs.Magnitudes.{outgoingBy};
+ghost use Rattle.nodes.specs.Lists.{Parts, sentBy};
 ghost use Rattle.decoder.specs.Steps.{Sized, Begins, whenSent, Iterates};
 
 // Iteration 0: levels, first messages and bits; check messages and sums all 0.
@@ -38,23 +36,30 @@ pub fn begin(
     nodes::first::first_bits(levels, bits);
 }
 
-// The last step of an iteration, where it is done: the variable messages.
+// The last step of an iteration, where it is done: the variable messages, by the lists of parts and messages.
 pub fn send(
     done: bool,
     columns: &[u8],
     check_messages: &[u8],
     sums: &[u8],
-    nine: &[u8],
+    parts: &[i32],
+    messages: &[u8],
     variable_messages: &mut [u8],
 )
-    requires { ⌜ (length (now «check_messages») ≡ length (now columns) / 2) × (length (now «variable_messages») ≡ length (now «check_messages»)) × (length (now nine) ≡ 9) ⌝ }
-    requires { ⌜ ((k : ℕ) → getD (now nine) k 0 < 128) ⌝ }
+    requires { ⌜ (length (now «check_messages») ≡ length (now columns) / 2) × (length (now «variable_messages») ≡ length (now «check_messages»)) × Parts (now parts) × (length (now messages) ≡ 35) ⌝ }
     requires { ⌜ ((e : ℕ) → e < length (now «check_messages») → columnAt (now columns) e < length (now sums) / 4) ⌝ }
     requires { ⌜ ((v : ℕ) → v < length (now sums) / 4 → natAbs (sumAt (now sums) v) < 2 ^ 30) ⌝ }
-    ensures { λ _. ⌜ now («variable_messages» .exit) ≡ whenSent done (now («variable_messages» .entry)) (tabulate (λ e. byte (outgoingBy (now (nine .entry)) (sumAt (now (sums .entry)) (columnAt (now (columns .entry)) e) -ℤ contribution 1 (levelIn (now («check_messages» .entry)) e)))) (length (now («check_messages» .entry)))) ⌝ }
+    ensures { λ _. ⌜ now («variable_messages» .exit) ≡ whenSent done (now («variable_messages» .entry)) (tabulate (sentBy (now (parts .entry)) (now (messages .entry)) (columnAt (now (columns .entry))) (now (sums .entry)) (now («check_messages» .entry))) (length (now («check_messages» .entry)))) ⌝ }
 {
     if done {
-        nodes::variable::variable_nodes(columns, check_messages, sums, nine, variable_messages);
+        nodes::variable::variable_nodes(
+            columns,
+            check_messages,
+            sums,
+            parts,
+            messages,
+            variable_messages,
+        );
     }
 }
 
@@ -65,16 +70,17 @@ pub fn iterate(
     columns: &[u8],
     levels: &[u8],
     degrees: &[u16],
+    parts: &[i32],
     variable_messages: &[u8],
     check_messages: &mut [u8],
     sums: &mut [u8],
     bits: &mut [u8],
 )
-    requires { ⌜ Sized (graphOf n (now starts) (now columns)) (now levels) (now degrees) (now «variable_messages») (now «check_messages») (now sums) (now bits) ⌝ }
-    ensures { λ _. ⌜ Iterates (graphOf n (now (starts .entry)) (now (columns .entry))) (levelIn (now (levels .entry))) (levelIn (now («variable_messages» .entry))) (now («check_messages» .exit)) (now (sums .exit)) (now (bits .exit)) ⌝ }
+    requires { ⌜ Sized (graphOf n (now starts) (now columns)) (now levels) (now degrees) (now «variable_messages») (now «check_messages») (now sums) (now bits) × Parts (now parts) ⌝ }
+    ensures { λ _. ⌜ Iterates (graphOf n (now (starts .entry)) (now (columns .entry))) (levelIn (now (levels .entry))) (levelIn (now («variable_messages» .entry))) (now (parts .entry)) (now («check_messages» .exit)) (now (sums .exit)) (now (bits .exit)) ⌝ }
 {
     nodes::check::check_nodes(starts, variable_messages, check_messages);
     nodes::sums::channel_parts(levels, degrees, sums);
-    nodes::sums::add_messages(columns, check_messages, sums);
+    nodes::sums::add_messages(columns, check_messages, parts, sums);
     nodes::sums::decide(levels, sums, bits);
 }

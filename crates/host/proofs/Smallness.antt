@@ -15,8 +15,9 @@ use Rattle.channel.proofs.Accepted.{good-settings}
 use Rattle.rules.specs.declared.Verdict.{Verdict}
 use Rattle.rules.specs.declared.Verdict.the-variants.{Codeword, Stopped}
 use Rattle.decoder.specs.declared.Decoded.{Decoded}
-use Rattle.decoder.specs.Decoding.{Frame, Memory, Room, Decodes, graph, scheme, frameJudged, decodeJudged, decoded}
-use Rattle.decoder.proofs.Accepting.{frame-told, memory-told, settingsFor}
+use Rattle.decoder.specs.declared.Room.{Room}
+use Rattle.decoder.specs.Decoding.{Frame, Memory, Decodes, graph, scheme, frameJudged, decodeJudged, decoded}
+use Rattle.decoder.proofs.Accepting.{frame-told, memory-told}
 use Rattle.host.specs.Packing.{Small, verdictOf, packDecoded, HostDecodes}
 
 unsatisfied-small : (F : Frame) (t : ℕ) → frameJudged F ≡ Admitted → unsatisfiedIn (graph F) (scheme F) t ≤ limits .checks
@@ -24,17 +25,17 @@ unfolding unsatisfiedIn unsatisfied
 unsatisfied-small F t h =
     omega (arith, count-le (oddCheck (graph F) (bitAt (state (graph F) (scheme F) t .bits))) 0 (graph F .checks), graph-admitted (graph F) (frame-told F h .graph) .checks)
 
-limit-small : (F : Frame) → frameJudged F ≡ Admitted → F .limit ≤ 255
+limit-small : (F : Frame) → frameJudged F ≡ Admitted → F .asked .limit ≤ 255
 unfolding settingsOf
 limit-small F h =
-    good-settings (F .scaling) (F .channel) (F .message) (F .phiS) (F .phiA) (F .phi0) (F .limit) (settingsFor F) (ap (λ j. checked j (settingsFor F)) (frame-told F h .settings)) .1 .limit
+    good-settings (F .asked) (settings (F .asked)) (ap (λ j. checked j (settings (F .asked))) (frame-told F h .settings)) .1 .limit
 
 pub decoded-small : (F : Frame) (m : Room) (j : Judged) → decodeJudged F m ≡ j → Small (decoded F j)
 unfolding report
 decoded-small F m (Refused r) h = omega arith
 decoded-small F m Admitted h =
     let ok = memory-told F m h .0 in
-    (omega (arith, run-stops (graph F) (scheme F) (F .limit) .within, limit-small F ok), unsatisfied-small F (stop (graph F) (scheme F) (F .limit)) ok)
+    (omega (arith, run-stops (graph F) (scheme F) (F .asked .limit) .within, limit-small F ok), unsatisfied-small F (stop (graph F) (scheme F) (F .asked .limit)) ok)
 
 pub verdict-small : (v : Verdict) → verdictOf v ≤ 1
 verdict-small Codeword = omega arith

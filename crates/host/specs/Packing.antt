@@ -11,6 +11,7 @@ use Rattle.rules.specs.declared.Judged.{Judged}
 use Rattle.rules.specs.declared.Judged.the-variants as Judgement
 use Rattle.rules.specs.declared.Verdict.{Verdict}
 use Rattle.rules.specs.declared.Verdict.the-variants.{Codeword, Stopped}
+use Rattle.channel.specs.declared.Parameters.{Parameters}
 use Rattle.channel.specs.declared.Scaling.{Scaling}
 use Rattle.channel.specs.declared.Scaling.the-variants.{Plain, Noise}
 use Rattle.decoder.specs.declared.Decoded.{Decoded}
@@ -26,6 +27,18 @@ use Rattle.sheet_writer.specs.declared.Written.the-variants as Writes
 -- 'Kind 0 is a plain gain (variance unread), 1 a gain with variance; another kind gets 10', in 10's place of the order, as a gain of zero does.
 abbrev pub scalingOf : ℕ → Float → Float → Scaling
 scalingOf kind gain variance = cond (eqb kind 0) (Plain gain) (cond (eqb kind 1) (Noise gain variance) (Plain (ofBits binary32 0)))
+
+-- What is asked of the run, from the numbers of a call.
+abbrev pub askedOf : Scaling → ℕ → ℕ → ℕ → ℕ → ℕ → ℕ → Parameters
+askedOf scaling channel message phiS phiA phi0 limit = record {
+  scaling = scaling;
+  channel = channel;
+  message = message;
+  «phi_s» = phiS;
+  «phi_a» = phiA;
+  «phi_0» = phi0;
+  limit = limit;
+}
 
 -- The lowest byte is the refusal's number, 0 where nothing is refused; its place comes from a call of its own.
 abbrev pub verdictOf : Verdict → ℕ

@@ -2,10 +2,12 @@
 ghost use mathlib.Core.Path.{_≡_};
 ghost use Rattle.decoder.specs.Decoding.{decodeJudged};
 ghost use Rattle.decoder.specs.Frames.{frame, memory, room};
-ghost use Rattle.host.specs.Packing.{scalingOf, verdictOf, packDecoded, placeOf, HostDecodes, Small};
+ghost use Rattle.host.specs.Packing.{scalingOf, askedOf, verdictOf, packDecoded, placeOf, HostDecodes, Small};
 use channel::Checked;
+use channel::Parameters;
 use channel::Scaling;
 use decoder::Decoded;
+use decoder::Room;
 use rules::Verdict;
 
 pub mod sheets; // the entries for code sheets
@@ -73,14 +75,10 @@ pub extern "C" fn frame_decode(
     sums: &mut [u8],
     bits: &mut [u8],
 ) -> u64
-    ensures { λ r. ⌜ HostDecodes (frame n (now (starts .entry)) (now (columns .entry)) (now (values .entry)) (scalingOf kind gain variance) channel message «phi_s» «phi_a» «phi_0» limit) (memory (now (levels .entry)) (now («variable_messages» .entry)) (now («check_messages» .entry)) (now (sums .entry)) (now (bits .entry))) (memory (now (levels .exit)) (now («variable_messages» .exit)) (now («check_messages» .exit)) (now (sums .exit)) (now (bits .exit))) r ⌝ }
+    ensures { λ r. ⌜ HostDecodes (frame n (now (starts .entry)) (now (columns .entry)) (now (values .entry)) (askedOf (scalingOf kind gain variance) channel message «phi_s» «phi_a» «phi_0» limit)) (memory (now (levels .entry)) (now («variable_messages» .entry)) (now («check_messages» .entry)) (now (sums .entry)) (now (bits .entry))) (memory (now (levels .exit)) (now («variable_messages» .exit)) (now («check_messages» .exit)) (now (sums .exit)) (now (bits .exit))) r ⌝ }
 {
     let scaling = scaling_of(kind, gain, variance);
-    let d = decoder::decode(
-        n,
-        starts,
-        columns,
-        values,
+    let asked = Parameters {
         scaling,
         channel,
         message,
@@ -88,6 +86,13 @@ pub extern "C" fn frame_decode(
         phi_a,
         phi_0,
         limit,
+    };
+    let d = decoder::decode(
+        n,
+        starts,
+        columns,
+        values,
+        asked,
         levels,
         variable_messages,
         check_messages,
@@ -119,14 +124,10 @@ pub extern "C" fn frame_decode_place(
     sums: usize,
     bits: usize,
 ) -> usize
-    ensures { λ r. ⌜ r ≡ placeOf (decodeJudged (frame n (now (starts .entry)) (now (columns .entry)) (now (values .entry)) (scalingOf kind gain variance) channel message «phi_s» «phi_a» «phi_0» limit) (room levels «variable_messages» «check_messages» sums bits)) ⌝ }
+    ensures { λ r. ⌜ r ≡ placeOf (decodeJudged (frame n (now (starts .entry)) (now (columns .entry)) (now (values .entry)) (askedOf (scalingOf kind gain variance) channel message «phi_s» «phi_a» «phi_0» limit)) (room levels «variable_messages» «check_messages» sums bits)) ⌝ }
 {
     let scaling = scaling_of(kind, gain, variance);
-    let c = decoder::accept(
-        n,
-        starts,
-        columns,
-        values,
+    let asked = Parameters {
         scaling,
         channel,
         message,
@@ -134,12 +135,15 @@ pub extern "C" fn frame_decode_place(
         phi_a,
         phi_0,
         limit,
+    };
+    let room = Room {
         levels,
         variable_messages,
         check_messages,
         sums,
         bits,
-    );
+    };
+    let c = decoder::accept(n, starts, columns, values, asked, room);
     match c {
         Checked::Refused(r) => {
             let k = r.numbered();

@@ -8,7 +8,8 @@ ghost use Rattle.rules.specs.Ranges.{fold, one, tabulate};
 ghost use Rattle.rules.specs.Levels.{levelOf};
 ghost use Rattle.rules.specs.Nodes as Nodes;
 ghost use Rattle.words.specs.Roles.{columnAt, sumAt, sumTable};
-ghost use Rattle.nodes.specs.Memory.{levelIn, onColumns};
+ghost use Rattle.nodes.specs.Memory.{levelIn};
+ghost use Rattle.nodes.specs.Lists.{Parts, partIn, shareIn};
 
 // The signed number s(2M + e) of a level byte.
 pub fn contribution(b: u8, e: u8) -> i32
@@ -51,14 +52,13 @@ pub fn contributions() -> [i32; 256]
     parts
 }
 
-// Adds the contribution of each entry's message to the sum of its variable.
-pub fn add_messages(columns: &[u8], messages: &[u8], sums: &mut [u8])
-    requires { ⌜ (length (now messages) ≡ length (now columns) / 2) × (length (now messages) ≤ 4000000) ⌝ }
+// Adds to the sum of each entry's variable the part of the entry's message, by a list of parts for all bytes.
+pub fn add_messages(columns: &[u8], messages: &[u8], parts: &[i32], sums: &mut [u8])
+    requires { ⌜ (length (now messages) ≡ length (now columns) / 2) × (length (now messages) ≤ 4000000) × Parts (now parts) ⌝ }
     requires { ⌜ ((e : ℕ) → e < length (now messages) → columnAt (now columns) e < length (now sums) / 4) ⌝ }
     requires { ⌜ ((v : ℕ) → v < length (now sums) / 4 → natAbs (sumAt (now sums) v) ≤ 1024) ⌝ }
-    ensures { λ _. ⌜ now (sums .exit) ≡ sumTable (λ v. sumAt (now (sums .entry)) v +ℤ fold _+ℤ_ (pos 0) (Nodes.share (onColumns (now (columns .entry))) (levelIn (now (messages .entry))) v) 0 (length (now (messages .entry)))) (length (now (sums .entry)) / 4) ++ drop (4 * (length (now (sums .entry)) / 4)) (now (sums .entry)) ⌝ }
+    ensures { λ _. ⌜ now (sums .exit) ≡ sumTable (λ v. sumAt (now (sums .entry)) v +ℤ fold _+ℤ_ (pos 0) (shareIn (columnAt (now (columns .entry))) (partIn (now (parts .entry)) (now (messages .entry))) v) 0 (length (now (messages .entry)))) (length (now (sums .entry)) / 4) ++ drop (4 * (length (now (sums .entry)) / 4)) (now (sums .entry)) ⌝ }
 {
-    let parts = contributions();
     let mut e = 0;
     while e < messages.len() {
         let v = words::column(columns, e);

@@ -18,7 +18,8 @@ use Rattle.rules.specs.declared.Judged.the-variants as Judgement
 use Rattle.rules.proofs.Ranges.{length-tabulate}
 use Rattle.decoder.specs.declared.Decoded.{Decoded}
 use Rattle.decoder.specs.declared.Decoded.the-variants.{Ran, Refused}
-use Rattle.decoder.specs.Decoding.{Frame, Memory, Room, roomOf, enough, graph, scheme, frameJudged, decodeJudged, decoded, memoryAfter, Decodes}
+use Rattle.decoder.specs.declared.Room.{Room}
+use Rattle.decoder.specs.Decoding.{Frame, Memory, roomOf, enough, graph, scheme, frameJudged, decodeJudged, decoded, memoryAfter, Decodes}
 use Rattle.printing.specs.Texts.{reportText, refusalText, longest, Prints}
 use Rattle.program.specs.Answering.{judgedText, frameText}
 use Rattle.printing.proofs.Parts.{prints-as}
@@ -40,8 +41,8 @@ none-short (Judgement.Refused r) = refl
 
 pub record Lent (F : Frame) (m : Room) : Type 0 where
   pub levels : F .variables ≤ m .levels
-  pub variableMessages : graph F .entries ≤ m .variableMessages
-  pub checkMessages : graph F .entries ≤ m .checkMessages
+  pub variableMessages : graph F .entries ≤ m .«variable_messages»
+  pub checkMessages : graph F .entries ≤ m .«check_messages»
   pub sums : 4 * F .variables ≤ m .sums
   pub bits : F .variables ≤ m .bits
 
@@ -73,9 +74,9 @@ module _ {F : Frame} {M M′ : Memory} {d : Decoded} (w : Decodes F M M′ d) (l
     where
       go : (j : Judged) → decoded F j ≡ Ran r → M′ ≡ memoryAfter F j M → judgedText F j ≡ reportText r (take (F .variables) (M′ .bits))
       go Judgement.Admitted q m =
-          let b : List ℕ = map one (final (graph F) (scheme F) (F .limit) .bits) in
-          let u : report (graph F) (scheme F) (F .limit) ≡ r = cc in
-          let n : length b ≡ F .variables = length-map (final (graph F) (scheme F) (F .limit) .bits) one ∙ final-bits (graph F) (scheme F) (F .limit) in
+          let b : List ℕ = map one (final (graph F) (scheme F) (F .asked .limit) .bits) in
+          let u : report (graph F) (scheme F) (F .asked .limit) ≡ r = cc in
+          let n : length b ≡ F .variables = length-map (final (graph F) (scheme F) (F .asked .limit) .bits) one ∙ final-bits (graph F) (scheme F) (F .asked .limit) in
           let v : take (F .variables) (M′ .bits) ≡ b = ap (λ (x : Memory). take (F .variables) (x .bits)) m ∙ take-at b (drop (F .variables) (M .bits)) (F .variables) n in
           ap₂ reportText u (sym v)
       go (Judgement.Refused s) q m = let z : _≡_ {A = ℕ} 0 1 = cc in absurd (omega arith)

@@ -18,14 +18,15 @@ use Rattle.sheet.specs.declared.Sheet.the-variants as Sheets
 use Rattle.sheet.specs.Reading as Sheet
 use Rattle.sheet.specs.Reading.{Reading, sheetRead}
 use Rattle.sheet.proofs.Texts.{texts-and-graphs}
-use Rattle.run_text.specs.declared.Given.{Given}
+use Rattle.channel.specs.declared.Parameters.{Parameters}
+use Rattle.decoder.specs.Frames.{frame}
 use Rattle.run_text.specs.declared.Run.{Run}
 use Rattle.run_text.specs.declared.Run.the-variants as Runs
 use Rattle.run_text.specs.Reading as Run
 use Rattle.run_text.specs.Reading.{RunText, largestInput, runText}
 use Rattle.run_text.proofs.Lengths.{run-long}
 use Rattle.printing.specs.Texts.{refusalText, longest, Prints}
-use Rattle.program.specs.Answering.{frameText, frameOf, afterRun, afterSheet, sheetGiven, programText, Answers}
+use Rattle.program.specs.Answering.{frameText, afterRun, afterSheet, sheetGiven, programText, Answers}
 
 -- ---- the run text
 
@@ -37,16 +38,16 @@ module _ (n : ℕ) (s starts columns : List ℕ) {r : Run} {old now : List ℕ} 
       go (Run.refused k) q = let u : l ≡ k = cc in ap (λ (j : ℕ). refusalText (Refusals.RunText j)) u
       go (Run.read g v) q = let z : _≡_ {A = ℕ} 0 1 = cc in absurd (omega arith)
 
-  pub run-given : {g : Given} → r ≡ Runs.Read g → frameText (frameOf n starts columns g (take (4 * n) now)) ≡ afterRun n starts columns (runText n s)
+  pub run-given : {g : Parameters} → r ≡ Runs.Read g → frameText (frame n starts columns (take (4 * n) now) g) ≡ afterRun n starts columns (runText n s)
   run-given {g} e = go (runText n s) refl (sym (w .answer) ∙ e) (w .values)
     where
       go : (x : RunText) → runText n s ≡ x → Run.answerOf x ≡ Runs.Read g → now ≡ Run.valuesIn x old
-          → frameText (frameOf n starts columns g (take (4 * n) now)) ≡ afterRun n starts columns x
+          → frameText (frame n starts columns (take (4 * n) now) g) ≡ afterRun n starts columns x
       go (Run.refused k) f q h = let z : _≡_ {A = ℕ} 0 1 = cc in absurd (omega arith)
       go (Run.read k v) f q h =
           let u : g ≡ k = cc in
           let m : take (4 * n) now ≡ v = ap (take (4 * n)) h ∙ take-at v (drop (length v) old) (4 * n) (run-long n s k v f) in
-          ap₂ (λ (x : Given) (y : List ℕ). frameText (frameOf n starts columns x y)) u m
+          ap₂ (λ (x : Parameters) (y : List ℕ). frameText (frame n starts columns y x)) u m
 
 -- ---- the sheet
 

@@ -18,26 +18,20 @@ use Rattle.sheet.specs.Reading as Sheet
 use Rattle.sheet.specs.Reading.{sheetRead}
 use Rattle.run_text.specs.Reading as Run
 use Rattle.run_text.specs.Reading.{largestInput, runText}
-use Rattle.run_text.specs.declared.Given.{Given}
 use Rattle.printing.specs.Texts.{reportText, refusalText, longest}
 
 -- 'Then decode's': its refusals, but for 6, since enough memory is lent; or the report and the bits of the run.
 abbrev pub judgedText : Frame → Judged → List ℕ
-judgedText F Judgement.Admitted = reportText (report (graph F) (scheme F) (F .limit)) (map one (final (graph F) (scheme F) (F .limit) .bits))
+judgedText F Judgement.Admitted = reportText (report (graph F) (scheme F) (F .asked .limit)) (map one (final (graph F) (scheme F) (F .asked .limit) .bits))
 judgedText F (Judgement.Refused r) = refusalText r
 
 unfoldable pub frameText : Frame → List ℕ
 frameText F = judgedText F (frameJudged F)
 
--- The frame of n variables, the two lists of the graph, and what the run text gives.
-abbrev pub frameOf : ℕ → List ℕ → List ℕ → Given → List ℕ → Frame
-frameOf n starts columns g values =
-    frame n starts columns values (g .scaling) (g .channel) (g .message) (g .«phi_s») (g .«phi_a») (g .«phi_0») (g .limit)
-
 -- '14, run text oversized (0), else the first line that is of other form, missing, extra or without LF (its line).'
 abbrev pub afterRun : ℕ → List ℕ → List ℕ → Run.RunText → List ℕ
 afterRun n starts columns (Run.refused l) = refusalText (RunText l)
-afterRun n starts columns (Run.read g values) = frameText (frameOf n starts columns g values)
+afterRun n starts columns (Run.read asked values) = frameText (frame n starts columns values asked)
 
 -- 'The sheet's.' The graph's lists are m + 1 starts and E columns, two bytes each.
 abbrev pub afterSheet : Sheet.Reading → List ℕ → List ℕ

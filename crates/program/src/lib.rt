@@ -2,14 +2,15 @@
 ghost use Prim.Native.Nat.{_/_, _≤_};
 ghost use lib.ListN.{length};
 ghost use Rattle.rules.specs.Graphs.{limits};
+ghost use Rattle.decoder.specs.Frames.{frame};
 ghost use Rattle.run_text.specs.Reading.{runText};
 ghost use Rattle.printing.specs.Texts.{longest, Prints};
-ghost use Rattle.program.specs.Answering.{frameText, frameOf, afterRun, afterSheet, sheetGiven, Answers};
+ghost use Rattle.program.specs.Answering.{frameText, afterRun, afterSheet, sheetGiven, Answers};
+use channel::Parameters;
 use decoder::Decoded;
 use printing::put_refusal;
 use printing::put_report;
 use rules::Refusal;
-use run_text::Given;
 use run_text::Run;
 use sheet::Sheet;
 
@@ -19,30 +20,23 @@ fn decode_answer(
     starts: &[u8],
     columns: &[u8],
     values: &[u8],
-    g: Given,
+    asked: Parameters,
     out: &mut [u8],
 ) -> usize
     requires { ⌜ (n ≤ limits .variables) × (length (now columns) / 2 ≤ limits .entries) × (longest ≤ length (now out)) ⌝ }
-    ensures { λ r. ⌜ Prints longest (frameText (frameOf n (now (starts .entry)) (now (columns .entry)) g (now (values .entry)))) (now (out .entry)) (now (out .exit)) r ⌝ }
+    ensures { λ r. ⌜ Prints longest (frameText (frame n (now (starts .entry)) (now (columns .entry)) (now (values .entry)) asked)) (now (out .entry)) (now (out .exit)) r ⌝ }
 {
     let mut levels = [0u8; rules::MOST_VARIABLES];
     let mut variable_messages = [0u8; rules::MOST_ENTRIES];
     let mut check_messages = [0u8; rules::MOST_ENTRIES];
     let mut sums = [0u8; 4 * rules::MOST_VARIABLES];
     let mut bits = [0u8; rules::MOST_VARIABLES];
-    let scaling = g.scaling;
     let d = decoder::decode(
         n,
         starts,
         columns,
         values,
-        scaling,
-        g.channel,
-        g.message,
-        g.phi_s,
-        g.phi_a,
-        g.phi_0,
-        g.limit,
+        asked,
         &mut levels,
         &mut variable_messages,
         &mut check_messages,
@@ -64,9 +58,9 @@ fn run_answer(n: usize, starts: &[u8], columns: &[u8], run: &[u8], out: &mut [u8
     let x = run_text::read(n, run, &mut values);
     match x {
         Run::Refused(l) => put_refusal(out, Refusal::RunText(l)),
-        Run::Read(g) => {
+        Run::Read(asked) => {
             let w = 4 * n;
-            decode_answer(n, starts, columns, &values[..w], g, out)
+            decode_answer(n, starts, columns, &values[..w], asked, out)
         }
     }
 }

@@ -94,14 +94,14 @@ abs-sum (pos a) (negsuc b) = sub-abs a (suc b)
 abs-sum (negsuc a) (pos b) = omega (arith, sub-abs b (suc a))
 abs-sum (negsuc a) (negsuc b) = omega arith
 
+pub abs-signed : (b : Bool) (n : ℕ) → natAbs (signed b n) ≡ n
+abs-signed false n = refl
+abs-signed true zero = refl
+abs-signed true (suc n) = refl
+
 pub abs-contribution : (e : ℕ) (l : Level) → natAbs (contribution e l) ≡ 2 * l .magnitude + e
 unfolding contribution
-abs-contribution e l = go (l .minus) (2 * l .magnitude + e)
-  where
-    go : (b : Bool) (n : ℕ) → natAbs (signed b n) ≡ n
-    go false n = refl
-    go true zero = refl
-    go true (suc n) = refl
+abs-contribution e l = abs-signed (l .minus) (2 * l .magnitude + e)
 
 module _ (G : Graph) (C : ℕ → Level) (Nq : ℕ) (h : (k : ℕ) → k < G .entries → C k .magnitude ≤ Nq) (v : ℕ) where
   share-bound : (k : ℕ) → k < G .entries → natAbs (share G C v k) ≤ one (eqb (G .column k) v) * (2 * Nq + 1)

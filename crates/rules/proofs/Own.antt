@@ -2,14 +2,14 @@
 use mathlib.Core.Path.{_≡_, refl, sym, ap, ap₂, _∙_}
 use mathlib.Core.Bool.{Bool, true, false, cond, xor}
 use mathlib.Core.Logic.{_≢_}
-use Prim.Native.Nat.{ℕ, _+_, _%_, _<_, min}
+use Prim.Native.Nat.{ℕ, zero, suc, _+_, _%_, _≤_, _<_, min}
 use native.Mathlib.Decide.{ℕ-discrete}
 use native.Mathlib.Omega.{arith}
 use borrow.Author.Tests.{le-leb, lt-leb, leb-true, leb-false}
-use lib.Dec.{eqb, leb}
+use lib.Dec.{eqb, leb, lit≤}
 use lib.IntN.{pos, _+ℤ_}
 use Rattle.rules.specs.Ranges.{but}
-use Rattle.rules.specs.Levels.{Level, byte, levelOf}
+use Rattle.rules.specs.Levels.{Level, byte, levelOf, largest}
 use Rattle.rules.specs.Graphs.{Graph, checkDegree, checkOf}
 use Rattle.rules.specs.Nodes.{others, fromCheck, contribution, channelPart, share, outgoingSum}
 use Rattle.rules.specs.Theorems.{LevelBytes, OwnUncounted}
@@ -63,3 +63,12 @@ level-bytes = (there, back)
         by : (t : Bool) → leb 128 b ≡ t → b % 128 + cond t 128 0 ≡ b
         by true p = omega (arith, leb-true 128 b p)
         by false p = omega (arith, leb-false 128 b p)
+
+-- the largest magnitude of a precision up to 4 bits
+pub largest-within : (bits : ℕ) → bits ≤ 4 → largest bits ≤ 7
+largest-within zero l = lit≤ tt
+largest-within (suc zero) l = lit≤ tt
+largest-within (suc (suc zero)) l = lit≤ tt
+largest-within (suc (suc (suc zero))) l = lit≤ tt
+largest-within (suc (suc (suc (suc zero)))) l = lit≤ tt
+largest-within (suc (suc (suc (suc (suc n))))) l = absurd (omega arith)

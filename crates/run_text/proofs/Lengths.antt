@@ -10,33 +10,33 @@ use Rattle.lines.specs.Numbers.{Front, other, value}
 use Rattle.lines.specs.Lines.{lf, fixed}
 use Rattle.words.specs.Words.{bytes}
 use Rattle.words.proofs.Words.{length-bytes}
-use Rattle.run_text.specs.declared.Given.{Given}
+use Rattle.channel.specs.declared.Parameters.{Parameters}
 use Rattle.run_text.specs.Texts.{titles, settingsLine, valueTitle, pattern}
 use Rattle.run_text.specs.Reading.{RunText, refused, read, formed, valueLines, runLines, largestInput, runText}
 
-not-read : {l : ℕ} {g : Given} {v : List ℕ} → refused l ≡ read g v → ⊥
+not-read : {l : ℕ} {g : Parameters} {v : List ℕ} → refused l ≡ read g v → ⊥
 not-read e = let z : _≡_ {A = ℕ} 0 1 = cc in omega arith
 
 -- a property of what is read, through a line
-module _ (P : Given → List ℕ → Type 0) where
-  formed-read : {A : Type 0} (l : ℕ) (x : Front A) (k : A → List ℕ → RunText) → ((a : A) (t : List ℕ) (g : Given) (v : List ℕ) → k a t ≡ read g v → P g v)
-      → (g : Given) (v : List ℕ) → formed l x k ≡ read g v → P g v
+module _ (P : Parameters → List ℕ → Type 0) where
+  formed-read : {A : Type 0} (l : ℕ) (x : Front A) (k : A → List ℕ → RunText) → ((a : A) (t : List ℕ) (g : Parameters) (v : List ℕ) → k a t ≡ read g v → P g v)
+      → (g : Parameters) (v : List ℕ) → formed l x k ≡ read g v → P g v
   formed-read l other k h g v e = absurd (not-read e)
   formed-read l (value a t) k h g v e = h a t g v e
 
-lines-long : (g : Given) (k l : ℕ) (done t : List ℕ) (h : Given) (v : List ℕ) → valueLines g k l done t ≡ read h v → length v ≡ length done + 4 * k
+lines-long : (g : Parameters) (k l : ℕ) (done t : List ℕ) (h : Parameters) (v : List ℕ) → valueLines g k l done t ≡ read h v → length v ≡ length done + 4 * k
 unfolding valueLines
 lines-long g zero l done [] h v e = let q : done ≡ v = cc in ap length (sym q) ∙ omega arith
 lines-long g zero l done (b ∷ t) h v e = absurd (not-read e)
 lines-long g (suc k) l done t h v e =
-    formed-read (λ (_ : Given) (v : List ℕ). length v ≡ length done + 4 * suc k) l (pattern lf t) (λ x r. valueLines g k (suc l) (done ++ bytes 4 x) r)
+    formed-read (λ (_ : Parameters) (v : List ℕ). length v ≡ length done + 4 * suc k) l (pattern lf t) (λ x r. valueLines g k (suc l) (done ++ bytes 4 x) r)
     (λ x r h v q. lines-long g k (suc l) (done ++ bytes 4 x) r h v q ∙ omega (arith, length-append done (bytes 4 x), length-bytes 4 x)) h v e
 
-pub run-long : (n : ℕ) (t : List ℕ) (g : Given) (v : List ℕ) → runText n t ≡ read g v → length v ≡ 4 * n
+pub run-long : (n : ℕ) (t : List ℕ) (g : Parameters) (v : List ℕ) → runText n t ≡ read g v → length v ≡ 4 * n
 unfolding runText runLines
 run-long n t g v e = go (leb (length t) largestInput) e
   where
-    P : Given → List ℕ → Type 0
+    P : Parameters → List ℕ → Type 0
     P g v = length v ≡ 4 * n
 
     all : runLines n t ≡ read g v → length v ≡ 4 * n

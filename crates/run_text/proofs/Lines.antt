@@ -10,7 +10,7 @@ use Rattle.lines.specs.Numbers.{other, value}
 use Rattle.lines.specs.Lines.{space, lf, fixed}
 use Rattle.channel.specs.declared.Scaling.{Scaling}
 use Rattle.channel.specs.declared.Scaling.the-variants.{Plain, Noise}
-use Rattle.run_text.specs.declared.Given.{Given}
+use Rattle.channel.specs.declared.Parameters.{Parameters}
 use Rattle.run_text.specs.Texts.{plainTitles, noiseTitles, titles, pattern, scaling, setting, Three, three, settings, given, settingsLine, valueTitle}
 use Rattle.run_text.specs.Reading.{refused, valueLines, runLines, largestInput, runText}
 
@@ -101,7 +101,7 @@ module _ (n : ℕ) (s : List ℕ) where
     unfolding runLines
     no-settings e = rw (e₁, e)
 
-    module _ {g : Given} {t₂ : List ℕ} (e₂ : settingsLine noise t₁ ≡ value g t₂) where
+    module _ {g : Parameters} {t₂ : List ℕ} (e₂ : settingsLine noise t₁ ≡ value g t₂) where
       pub no-title : fixed valueTitle t₂ ≡ other → runLines n s ≡ refused 3
       unfolding runLines
       no-title e = rw (e₁, e₂, e)

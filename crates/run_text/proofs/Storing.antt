@@ -10,7 +10,7 @@ use Rattle.lines.specs.Lines.{lf}
 use Rattle.lines.proofs.Places.{here}
 use Rattle.words.specs.Words.{bytes, stored}
 use Rattle.words.proofs.Words.{length-bytes, stored-over}
-use Rattle.run_text.specs.declared.Given.{Given}
+use Rattle.channel.specs.declared.Parameters.{Parameters}
 use Rattle.run_text.specs.declared.Run.the-variants as Answer
 use Rattle.run_text.specs.Texts.{pattern}
 use Rattle.run_text.specs.Reading.{RunText, refused, read, valueLines, answerOf, valuesIn, ReadAs}
@@ -18,7 +18,7 @@ use Rattle.run_text.specs.declared.Values.{Values}
 use Rattle.run_text.specs.declared.Values.the-variants as Stored
 use Rattle.run_text.specs.Places.{Stores, StoresAs, ValuesAs}
 
-module _ (g : Given) (l : ℕ) (done : List ℕ) where
+module _ (g : Parameters) (l : ℕ) (done : List ℕ) where
   line-other : (k : ℕ) (t : List ℕ) → 0 < k → pattern lf t ≡ other → valueLines g k l done t ≡ refused l
   unfolding valueLines
   line-other zero t h e = absurd (omega arith)
@@ -57,7 +57,7 @@ pub record Storing (s : List ℕ) (n from at k : ℕ) (old now : List ℕ) : Typ
   pub within : at ≤ length s
   pub long : length done ≡ 4 * k
   pub holds : now ≡ done ++ drop (4 * k) old
-  pub same : (g : Given) → valueLines g n 4 [] (drop from s) ≡ valueLines g left (k + 4) done (drop at s)
+  pub same : (g : Parameters) → valueLines g n 4 [] (drop from s) ≡ valueLines g left (k + 4) done (drop at s)
 
 pub storing-none : (s : List ℕ) (n from : ℕ) (old : List ℕ) → from ≤ length s → Storing s n from from 0 old old
 storing-none s n from old h = record { left = n; done = []; total = omega arith; within = h; long = refl; holds = refl; same = λ g. refl }
@@ -69,14 +69,14 @@ module _ {s : List ℕ} {n from at k : ℕ} {old now : List ℕ} (q : Storing s 
       ∙ omega (arith, q .long, q .total, length-drop (4 * k) old)
 
   module _ (l : k < n) where
-    pub storing-other : pattern lf (drop at s) ≡ other → (g : Given) → valueLines g n 4 [] (drop from s) ≡ refused (k + 4)
+    pub storing-other : pattern lf (drop at s) ≡ other → (g : Parameters) → valueLines g n 4 [] (drop from s) ≡ refused (k + 4)
     storing-other e g = q .same g ∙ line-other g (k + 4) (q .done) (q .left) (drop at s) (omega (arith, q .total)) e
 
     pub storing-more : {v next : ℕ} {later : List ℕ} → 4 * n ≤ length old → pattern lf (drop at s) ≡ value v (drop next s) → next ≤ length s
         → later ≡ stored 4 now (4 * k) v → Storing s n from next (k + 1) old later
     storing-more {v} {next} {later} h e w p = go (q .left) (q .total) (q .same)
       where
-        go : (left : ℕ) → left + k ≡ n → ((g : Given) → valueLines g n 4 [] (drop from s) ≡ valueLines g left (k + 4) (q .done) (drop at s))
+        go : (left : ℕ) → left + k ≡ n → ((g : Parameters) → valueLines g n 4 [] (drop from s) ≡ valueLines g left (k + 4) (q .done) (drop at s))
             → Storing s n from next (k + 1) old later
         go zero t a = absurd (omega arith)
         go (suc left) t a = record {
@@ -92,15 +92,15 @@ module _ {s : List ℕ} {n from at k : ℕ} {old now : List ℕ} (q : Storing s 
         }
 
   module _ (l : n ≤ k) where
-    none-left : (g : Given) → valueLines g n 4 [] (drop from s) ≡ valueLines g 0 (k + 4) (q .done) (drop at s)
+    none-left : (g : Parameters) → valueLines g n 4 [] (drop from s) ≡ valueLines g 0 (k + 4) (q .done) (drop at s)
     none-left g =
         let e : q .left ≡ 0 = omega (arith, q .total) in
         q .same g ∙ ap (λ (j : ℕ). valueLines g j (k + 4) (q .done) (drop at s)) e
 
-    pub storing-extra : at < length s → (g : Given) → valueLines g n 4 [] (drop from s) ≡ refused (k + 4)
+    pub storing-extra : at < length s → (g : Parameters) → valueLines g n 4 [] (drop from s) ≡ refused (k + 4)
     storing-extra h g = none-left g ∙ line-extra g (k + 4) (q .done) s at h
 
-    pub storing-all : length s ≤ at → (g : Given) → Stores (valueLines g n 4 [] (drop from s)) g n old now
+    pub storing-all : length s ≤ at → (g : Parameters) → Stores (valueLines g n 4 [] (drop from s)) g n old now
     storing-all h g =
         let e : k ≡ n = omega (arith, q .total) in
         record {
@@ -116,18 +116,18 @@ module _ {s : List ℕ} {n from at k : ℕ} {old now : List ℕ} (q : Storing s 
 pub read-refused : {x : RunText} {l : ℕ} {old : List ℕ} → x ≡ refused l → ReadAs x (Answer.Refused l) old old
 read-refused {x} {l} {old} e = record { answer = sym (ap answerOf e); values = sym (ap (λ (y : RunText). valuesIn y old) e) }
 
-pub read-stored : {x y : RunText} {g : Given} {n : ℕ} {old now : List ℕ} → x ≡ y → Stores y g n old now → ReadAs x (Answer.Read g) old now
+pub read-stored : {x y : RunText} {g : Parameters} {n : ℕ} {old now : List ℕ} → x ≡ y → Stores y g n old now → ReadAs x (Answer.Read g) old now
 read-stored {x} {y} {g} {n} {old} {now} e s = record {
   answer = sym (ap answerOf (e ∙ s .is));
   values = s .holds ∙ ap (λ (j : ℕ). s .done ++ drop j old) (sym (s .long)) ∙ sym (ap (λ (z : RunText). valuesIn z old) (e ∙ s .is));
 }
 
-module _ {x : Given → RunText} {n : ℕ} {own own′ : List ℕ} {r : Values} (p : ValuesAs x n own own′ r) where
-  pub values-refused : {l : ℕ} → r ≡ Stored.Refused l → (g : Given) → x g ≡ refused l
+module _ {x : Parameters → RunText} {n : ℕ} {own own′ : List ℕ} {r : Values} (p : ValuesAs x n own own′ r) where
+  pub values-refused : {l : ℕ} → r ≡ Stored.Refused l → (g : Parameters) → x g ≡ refused l
   values-refused e = subst (StoresAs x n own own′) e (p .told)
 
   -- what was read once is read again
-  pub values-read : {old now : List ℕ} {r′ : Values} → r ≡ Stored.Read → ValuesAs x n old now r′ → (g : Given) → Stores (x g) g n old now
+  pub values-read : {old now : List ℕ} {r′ : Values} → r ≡ Stored.Read → ValuesAs x n old now r′ → (g : Parameters) → Stores (x g) g n old now
   values-read {old} {now} {r′} e q g = go r′ (q .told)
     where
       first : Stores (x g) g n own own′

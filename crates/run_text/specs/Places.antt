@@ -8,7 +8,7 @@ use Rattle.lines.specs.Numbers.{Front, other, value}
 use Rattle.channel.specs.declared.Scaling.{Scaling}
 use Rattle.run_text.specs.Texts.{Three, three}
 use Rattle.run_text.specs.Reading.{RunText, refused, read, valueLines, runLines}
-use Rattle.run_text.specs.declared.Given.{Given}
+use Rattle.channel.specs.declared.Parameters.{Parameters}
 use Rattle.run_text.specs.declared.Word.{Word}
 use Rattle.run_text.specs.declared.Word.the-variants as Words
 use Rattle.run_text.specs.declared.Triple.{Triple}
@@ -45,12 +45,12 @@ abbrev pub TitlesAt : (List ℕ → Front Bool) → List ℕ → Titles → Type
 TitlesAt form s Heads.Other = form s ≡ other
 TitlesAt form s (Heads.Of noise next) = Reads (form s) s noise next
 
-abbrev pub LineAt : (List ℕ → Front Given) → List ℕ → ℕ → Line → Type 0
+abbrev pub LineAt : (List ℕ → Front Parameters) → List ℕ → ℕ → Line → Type 0
 LineAt form s at Lines.Other = form (drop at s) ≡ other
 LineAt form s at (Lines.Of g next) = Reads (form (drop at s)) s g next
 
 -- The three lines above the values: refused, or the settings and the place of the first value's line.
-pub record ValuesFrom (s : List ℕ) (g : Given) (at : ℕ) : Type 0 where
+pub record ValuesFrom (s : List ℕ) (g : Parameters) (at : ℕ) : Type 0 where
   pub same : (n : ℕ) → runLines n s ≡ valueLines g n 4 [] (drop at s)
   pub within : at ≤ length s
 
@@ -59,16 +59,16 @@ AboveAt s (Aboves.Refused l) = (n : ℕ) → runLines n s ≡ refused l
 AboveAt s (Aboves.Of g at) = ValuesFrom s g at
 
 -- The values' lines: refused, or the values in memory.
-pub record Stores (x : RunText) (g : Given) (n : ℕ) (old now : List ℕ) : Type 0 where
+pub record Stores (x : RunText) (g : Parameters) (n : ℕ) (old now : List ℕ) : Type 0 where
   pub done : List ℕ
   pub is : x ≡ read g done
   pub long : length done ≡ 4 * n
   pub holds : now ≡ done ++ drop (4 * n) old
 
-abbrev pub StoresAs : (Given → RunText) → ℕ → List ℕ → List ℕ → Values → Type 0
-StoresAs x n old now (Stored.Refused l) = (g : Given) → x g ≡ refused l
-StoresAs x n old now Stored.Read = (g : Given) → Stores (x g) g n old now
+abbrev pub StoresAs : (Parameters → RunText) → ℕ → List ℕ → List ℕ → Values → Type 0
+StoresAs x n old now (Stored.Refused l) = (g : Parameters) → x g ≡ refused l
+StoresAs x n old now Stored.Read = (g : Parameters) → Stores (x g) g n old now
 
 -- The same, of an answer r of which nothing is known yet.
-pub record ValuesAs (x : Given → RunText) (n : ℕ) (old now : List ℕ) (r : Values) : Type 0 where
+pub record ValuesAs (x : Parameters → RunText) (n : ℕ) (old now : List ℕ) (r : Values) : Type 0 where
   pub told : StoresAs x n old now r

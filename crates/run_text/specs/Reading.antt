@@ -9,7 +9,7 @@ use lib.ListN.{length, drop}
 use Rattle.lines.specs.Numbers.{Front, other, value}
 use Rattle.lines.specs.Lines.{lf, fixed}
 use Rattle.words.specs.Words.{bytes}
-use Rattle.run_text.specs.declared.Given.{Given}
+use Rattle.channel.specs.declared.Parameters.{Parameters}
 use Rattle.run_text.specs.declared.Run.{Run}
 use Rattle.run_text.specs.declared.Run.the-variants as Answer
 use Rattle.run_text.specs.Texts.{titles, settingsLine, valueTitle, pattern}
@@ -17,7 +17,7 @@ use Rattle.run_text.specs.Texts.{titles, settingsLine, valueTitle, patte
 -- The line that is refused, or the settings and the bytes of the values, four each, lowest first.
 pub data RunText : Type 0 where
   refused : ℕ → RunText
-  read : Given → List ℕ → RunText
+  read : Parameters → List ℕ → RunText
 
 -- 'The first line that is of other form, missing, .. or without LF (its line)': line l, or what is made of it and of the text after it.
 abbrev pub formed : {A : Type 0} → ℕ → Front A → (A → List ℕ → RunText) → RunText
@@ -30,7 +30,7 @@ atEnd [] l x = x
 atEnd (b ∷ t) l x = refused l
 
 -- 'Then n lines': k lines more, line l the next, after the values `done`.
-unfoldable pub valueLines : Given → ℕ → ℕ → List ℕ → List ℕ → RunText
+unfoldable pub valueLines : Parameters → ℕ → ℕ → List ℕ → List ℕ → RunText
 valueLines g zero l done t = atEnd t l (read g done)
 valueLines g (suc k) l done t = formed l (pattern lf t) (λ v r. valueLines g k (suc l) (done ++ bytes 4 v) r)
 

@@ -9,7 +9,7 @@ use Rattle.lines.specs.Numbers.{Front, other, value}
 use Rattle.lines.specs.Lines.{space, lf, andThen, endedBy, field, fixed}
 use Rattle.channel.specs.declared.Scaling.{Scaling}
 use Rattle.channel.specs.declared.Scaling.the-variants.{Plain, Noise}
-use Rattle.run_text.specs.declared.Given.{Given}
+use Rattle.channel.specs.declared.Parameters.{Parameters}
 
 -- The first of two forms that stands there.
 abbrev pub firstOf : {A : Type 0} → Front A → Front A → Front A
@@ -74,7 +74,7 @@ unfoldable pub settings : ℕ → List ℕ → Front Three
 settings x t =
     andThen (setting space t) (λ a t₁. andThen (setting space t₁) (λ b t₂. andThen (setting x t₂) (λ c t₃. value (three a b c) t₃)))
 
-abbrev pub given : Scaling → Three → Three → Given
+abbrev pub given : Scaling → Three → Three → Parameters
 given s a b = record {
   scaling = s;
   channel = a .first;
@@ -86,7 +86,7 @@ given s a b = record {
 }
 
 -- 'Line 2 the values': scaling, channel, message, phi_s, then phi_a, phi_0, limit.
-unfoldable pub settingsLine : Bool → List ℕ → Front Given
+unfoldable pub settingsLine : Bool → List ℕ → Front Parameters
 settingsLine noise t =
     andThen (scaling noise t) (λ s t₁. andThen (settings space t₁) (λ a t₂. andThen (settings lf t₂) (λ b t₃. value (given s a b) t₃)))
 

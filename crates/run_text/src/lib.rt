@@ -7,20 +7,10 @@ ghost use Rattle.rules.specs.Graphs.{limits};
 ghost use Rattle.run_text.specs.Texts.{hexDigit, hexDigits, pattern, setting, settings, scaling, titles, settingsLine};
 ghost use Rattle.run_text.specs.Reading.{valueLines, runText, ReadAs};
 ghost use Rattle.run_text.specs.Places.{WordAt, TripleAt, ScaleAt, TitlesAt, LineAt, AboveAt, ValuesAs};
+use channel::Parameters;
 use channel::Scaling;
 use lines::Mark;
 use lines::Number;
-
-// The settings of a frame, as they are given.
-pub struct Given {
-    pub scaling: Scaling,
-    pub channel: u32,
-    pub message: u32,
-    pub phi_s: u32,
-    pub phi_a: u32,
-    pub phi_0: u32,
-    pub limit: u32,
-}
 
 // A number and the place after it.
 pub enum Word {
@@ -54,13 +44,13 @@ pub enum Titles {
 // The settings and the place after line 2.
 pub enum Line {
     Other,
-    Of { given: Given, next: usize },
+    Of { asked: Parameters, next: usize },
 }
 
 // The line that is refused, or the settings and the place of the first value's line.
 pub enum Above {
     Refused(usize),
-    Of(Given, usize),
+    Of(Parameters, usize),
 }
 
 // The line that is refused, or that the values stand in memory.
@@ -72,7 +62,7 @@ pub enum Values {
 // The line that is refused, 0 where the text is oversized, or the settings.
 pub enum Run {
     Refused(usize),
-    Read(Given),
+    Read(Parameters),
 }
 
 // The value of a lowercase hexadecimal digit, 16 where the byte is none.
@@ -269,7 +259,7 @@ fn settings_line_at(s: &[u8], at: usize, noise: bool) -> Line
         return Line::Other;
     };
     Line::Of {
-        given: Given {
+        asked: Parameters {
             scaling,
             channel,
             message,
@@ -291,14 +281,14 @@ fn lines_above(text: &[u8]) -> Above
         return Above::Refused(1);
     };
     let second = settings_line_at(text, i, noise);
-    let Line::Of { given, next: j } = second else {
+    let Line::Of { asked, next: j } = second else {
         return Above::Refused(2);
     };
     let third = lines::fixed_at(b"value\n", text, j);
     let Mark::After(at) = third else {
         return Above::Refused(3);
     };
-    Above::Of(given, at)
+    Above::Of(asked, at)
 }
 
 // The lines of n values, from a place on, into `values`.
@@ -339,14 +329,14 @@ pub fn read(n: usize, text: &[u8], values: &mut [u8]) -> Run
         Above::Refused(l) => {
             return Run::Refused(l);
         }
-        Above::Of(given, at) => {
+        Above::Of(asked, at) => {
             let mut own = [0u8; 4 * rules::MOST_VARIABLES];
             let judged = values_at(text, at, n, &mut own);
             if let Values::Refused(l) = judged {
                 return Run::Refused(l);
             }
             values_at(text, at, n, values);
-            return Run::Read(given);
+            return Run::Read(asked);
         }
     }
 }

@@ -1,15 +1,31 @@
-use mathlib.Core.Path.{sym, ap, _∙_}
+use mathlib.Core.Path.{_≡_, sym, ap, _∙_}
 use native.Mathlib.Omega.{arith}
 use borrow.Author.Tests.{not-true, not-false}
-use Rattle.graph.proofs.Meaning.{graph-admitted}
-use Rattle.channel.specs.declared.Settings.{Settings}
-use Rattle.channel.specs.Settings.{settings, settingsJudged, checked, settingsOf}
-use Rattle.decoder.specs.Decoding.{Frame, Room}
-use Rattle.decoder.specs.Frames.{frame, room}
-use Rattle.decoder.proofs.Accepting.{graph-refused, length-refused, settings-refused, values-refused, frame-admitted, memory-refused, all-admitted, checked-refused, checked-good}
 use borrow.Author.Needs.{needs}
+use Rattle.rules.specs.Graphs.{limits}
+use Rattle.rules.specs.declared.Judged.the-variants.{Admitted}
+use Rattle.graph.proofs.Meaning.{graph-admitted}
+use Rattle.graph.specs.Judging.{graphJudged}
+use Rattle.channel.specs.Settings.{settings, settingsJudged, checked, settingsOf}
+use Rattle.decoder.specs.Frames.{frame}
+use Rattle.decoder.specs.Decoding.{Frame, graph, frameJudged}
+use Rattle.decoder.proofs.Accepting.{graph-refused, length-refused, settings-refused, values-judged, frame-refused, memory-refused, all-admitted, checked-refused, checked-good}
 use Rattle.decoder.proofs.accept.Statement.{statement}
 use Rattle.decoder.proofs.accept.Tie as tie
+
+abbrev F : tie.Start → Frame
+F s = frame (s .args .n) (s .args .starts .now) (s .args .columns .now) (s .args .values .now) (s .args .asked)
+
+-- what each check that was passed says
+graph-good : (c : tie.After-enum-told) → graphJudged limits (graph (F (c .before .before .before .before .before .before))) ≡ Admitted
+graph-good c = sym (c .before .before .check .ensures) ∙ c .enum-told .given .1
+
+settings-good : (c : tie.After-enum-told2) → settingsJudged (c .before .before .before .before .before .before .before .before .before .before .args .asked) ≡ Admitted
+unfolding settingsOf
+settings-good c = checked-good (settingsJudged (c .before .before .before .before .before .before .before .before .before .before .args .asked)) (settings (c .before .before .before .before .before .before .before .before .before .before .args .asked)) (sym (c .before .before .check-settings .ensures) ∙ c .enum-told2 .given .1)
+
+frame-good : (c : tie.After-enum-told3) → frameJudged (F (c .before .before .before .before .before .before .before .before .before .before .before .before .before)) ≡ Admitted
+frame-good c = values-judged (F (c .before .before .before .before .before .before .before .before .before .before .before .before .before)) (graph-good (c .before .before .before .before .before .before .before)) (c .before .before .before .before .before .before .if1 .left) (settings-good (c .before .before .before)) (sym (c .before .before .check-values .ensures) ∙ c .enum-told3 .given .1)
 
 check-requires : tie.Need-check-requires
 check-requires c κs = search needs
@@ -19,22 +35,16 @@ enum-known-j c = search needs
 
 returns : tie.Need-returns
 returns c =
-    let a = c .before .before .before .before .before .before .before .args in
-    let F : Frame = frame (a .n) (a .starts .now) (a .columns .now) (a .values .now) (a .scaling) (a .channel) (a .message) (a .phi-s) (a .phi-a) (a .phi-0) (a .limit) in
-    let m : Room = room (a .levels) (a .variable-messages) (a .check-messages) (a .sums) (a .bits) in
-    let s : Settings = settings (a .scaling) (a .channel) (a .message) (a .phi-s) (a .phi-a) (a .phi-0) (a .limit) in
-    sym (ap (λ j. checked j s) (graph-refused F m (sym (c .before .before .before .check .ensures) ∙ c .before .j .given .1)))
+    let s = c .before .before .before .before .before .before .before in
+    sym (ap (λ j. checked j (settings (s .args .asked))) (frame-refused (F s) (s .args .room) (graph-refused (F s) (sym (c .before .before .before .check .ensures) ∙ c .before .j .given .1))))
 
 enum-told : tie.Need-enum-told
 enum-told c = search needs
 
 returns-2 : tie.Need-returns-2
 returns-2 c =
-    let a = c .before .before .before .before .before .before .before .args in
-    let F : Frame = frame (a .n) (a .starts .now) (a .columns .now) (a .values .now) (a .scaling) (a .channel) (a .message) (a .phi-s) (a .phi-a) (a .phi-0) (a .limit) in
-    let m : Room = room (a .levels) (a .variable-messages) (a .check-messages) (a .sums) (a .bits) in
-    let s : Settings = settings (a .scaling) (a .channel) (a .message) (a .phi-s) (a .phi-a) (a .phi-0) (a .limit) in
-    sym (ap (λ j. checked j s) (length-refused F m (sym (c .before .before .before .check .ensures) ∙ c .before .enum-told .given .1) (c .if1 .taken)))
+    let s = c .before .before .before .before .before .before .before in
+    sym (ap (λ j. checked j (settings (s .args .asked))) (frame-refused (F s) (s .args .room) (length-refused (F s) (graph-good (c .before)) (c .if1 .taken))))
 
 check-settings-requires : tie.Need-check-settings-requires
 check-settings-requires c κs = search needs
@@ -45,11 +55,8 @@ enum-known-c c = search needs
 returns-3 : tie.Need-returns-3
 unfolding settingsOf
 returns-3 c =
-    let a = c .before .before .before .before .before .before .before .before .before .before .before .args in
-    let F : Frame = frame (a .n) (a .starts .now) (a .columns .now) (a .values .now) (a .scaling) (a .channel) (a .message) (a .phi-s) (a .phi-a) (a .phi-0) (a .limit) in
-    let m : Room = room (a .levels) (a .variable-messages) (a .check-messages) (a .sums) (a .bits) in
-    let s : Settings = settings (a .scaling) (a .channel) (a .message) (a .phi-s) (a .phi-a) (a .phi-0) (a .limit) in
-    sym (ap (λ j. checked j s) (settings-refused F m (sym (c .before .before .before .before .before .before .before .check .ensures) ∙ c .before .before .before .before .before .enum-told .given .1) (c .before .before .before .before .if1 .left) (checked-refused (settingsJudged (a .scaling) (a .channel) (a .message) (a .phi-s) (a .phi-a) (a .phi-0) (a .limit)) s (sym (c .before .before .before .check-settings .ensures) ∙ c .before .c .given .1))))
+    let s = c .before .before .before .before .before .before .before .before .before .before .before in
+    sym (ap (λ j. checked j (settings (s .args .asked))) (frame-refused (F s) (s .args .room) (settings-refused (F s) (graph-good (c .before .before .before .before .before)) (c .before .before .before .before .if1 .left) (checked-refused (settingsJudged (s .args .asked)) (settings (s .args .asked)) (sym (c .before .before .before .check-settings .ensures) ∙ c .before .c .given .1)))))
 
 enum-told-2 : tie.Need-enum-told-2
 enum-told-2 c = search needs
@@ -61,37 +68,27 @@ enum-known-j-2 : tie.Need-enum-known-j-2
 enum-known-j-2 c = search needs
 
 returns-4 : tie.Need-returns-4
-unfolding settingsOf
 returns-4 c =
-    let a = c .before .before .before .before .before .before .before .before .before .before .before .before .before .before .args in
-    let F : Frame = frame (a .n) (a .starts .now) (a .columns .now) (a .values .now) (a .scaling) (a .channel) (a .message) (a .phi-s) (a .phi-a) (a .phi-0) (a .limit) in
-    let m : Room = room (a .levels) (a .variable-messages) (a .check-messages) (a .sums) (a .bits) in
-    let s : Settings = settings (a .scaling) (a .channel) (a .message) (a .phi-s) (a .phi-a) (a .phi-0) (a .limit) in
-    sym (ap (λ j. checked j s) (values-refused F m (sym (c .before .before .before .before .before .before .before .before .before .before .check .ensures) ∙ c .before .before .before .before .before .before .before .before .enum-told .given .1) (c .before .before .before .before .before .before .before .if1 .left) (checked-good (settingsJudged (a .scaling) (a .channel) (a .message) (a .phi-s) (a .phi-a) (a .phi-0) (a .limit)) s (sym (c .before .before .before .before .before .before .check-settings .ensures) ∙ c .before .before .before .before .enum-told2 .given .1)) (sym (c .before .before .before .check-values .ensures) ∙ c .before .j2 .given .1)))
+    let s = c .before .before .before .before .before .before .before .before .before .before .before .before .before .before in
+    sym (ap (λ j. checked j (settings (s .args .asked))) (frame-refused (F s) (s .args .room) (values-judged (F s) (graph-good (c .before .before .before .before .before .before .before .before)) (c .before .before .before .before .before .before .before .if1 .left) (settings-good (c .before .before .before .before)) (sym (c .before .before .before .check-values .ensures) ∙ c .before .j2 .given .1))))
 
 enum-told-3 : tie.Need-enum-told-3
 enum-told-3 c = search needs
 
 long-enough-requires : tie.Need-long-enough-requires
-long-enough-requires c κs = omega (arith, graph-admitted _ (sym (c .before .before .before .before .before .before .before .before .before .check .ensures) ∙ c .before .before .before .before .before .before .before .enum-told .given .1) .variables)
+long-enough-requires c κs = omega (arith, graph-admitted _ (graph-good (c .before .before .before .before .before .before .before)) .variables)
 
 returns-5 : tie.Need-returns-5
-unfolding settingsOf
 returns-5 c =
-    let a = c .before .before .before .before .before .before .before .before .before .before .before .before .before .before .before .args in
-    let F : Frame = frame (a .n) (a .starts .now) (a .columns .now) (a .values .now) (a .scaling) (a .channel) (a .message) (a .phi-s) (a .phi-a) (a .phi-0) (a .limit) in
-    let m : Room = room (a .levels) (a .variable-messages) (a .check-messages) (a .sums) (a .bits) in
-    let s : Settings = settings (a .scaling) (a .channel) (a .message) (a .phi-s) (a .phi-a) (a .phi-0) (a .limit) in
-    sym (ap (λ j. checked j s) (memory-refused F m (frame-admitted F m (sym (c .before .before .before .before .before .before .before .before .before .before .before .check .ensures) ∙ c .before .before .before .before .before .before .before .before .before .enum-told .given .1) (c .before .before .before .before .before .before .before .before .if1 .left) (checked-good (settingsJudged (a .scaling) (a .channel) (a .message) (a .phi-s) (a .phi-a) (a .phi-0) (a .limit)) s (sym (c .before .before .before .before .before .before .before .check-settings .ensures) ∙ c .before .before .before .before .before .enum-told2 .given .1)) (sym (c .before .before .before .before .check-values .ensures) ∙ c .before .before .enum-told3 .given .1)) (sym (c .before .long-enough .ensures) ∙ not-true _ (c .if2 .taken))))
+    let s = c .before .before .before .before .before .before .before .before .before .before .before .before .before .before .before in
+    sym (ap (λ j. checked j (settings (s .args .asked))) (memory-refused (F s) (s .args .room) (frame-good (c .before .before)) (sym (c .before .long-enough .ensures) ∙ not-true _ (c .if2 .taken))))
 
 returns-6 : tie.Need-returns-6
 unfolding settingsOf
 returns-6 c =
-    let a = c .before .before .before .before .before .before .before .before .before .before .before .before .before .before .before .args in
-    let F : Frame = frame (a .n) (a .starts .now) (a .columns .now) (a .values .now) (a .scaling) (a .channel) (a .message) (a .phi-s) (a .phi-a) (a .phi-0) (a .limit) in
-    let m : Room = room (a .levels) (a .variable-messages) (a .check-messages) (a .sums) (a .bits) in
-    let s : Settings = settings (a .scaling) (a .channel) (a .message) (a .phi-s) (a .phi-a) (a .phi-0) (a .limit) in
-    c .before .before .before .before .before .before .before .check-settings .ensures ∙ ap (λ j. checked j s) (checked-good (settingsJudged (a .scaling) (a .channel) (a .message) (a .phi-s) (a .phi-a) (a .phi-0) (a .limit)) s (sym (c .before .before .before .before .before .before .before .check-settings .ensures) ∙ c .before .before .before .before .before .enum-told2 .given .1) ∙ sym (all-admitted F m (frame-admitted F m (sym (c .before .before .before .before .before .before .before .before .before .before .before .check .ensures) ∙ c .before .before .before .before .before .before .before .before .before .enum-told .given .1) (c .before .before .before .before .before .before .before .before .if1 .left) (checked-good (settingsJudged (a .scaling) (a .channel) (a .message) (a .phi-s) (a .phi-a) (a .phi-0) (a .limit)) s (sym (c .before .before .before .before .before .before .before .check-settings .ensures) ∙ c .before .before .before .before .before .enum-told2 .given .1)) (sym (c .before .before .before .before .check-values .ensures) ∙ c .before .before .enum-told3 .given .1)) (sym (c .before .long-enough .ensures) ∙ not-false _ (c .if2 .left))))
+    let s = c .before .before .before .before .before .before .before .before .before .before .before .before .before .before .before in
+    c .before .before .before .before .before .before .before .check-settings .ensures ∙ ap (λ j. checked j (settings (s .args .asked)))
+    (settings-good (c .before .before .before .before .before) ∙ sym (all-admitted (F s) (s .args .room) (frame-good (c .before .before)) (sym (c .before .long-enough .ensures) ∙ not-false _ (c .if2 .left))))
 
 pub accept-spec : {M : Type 1} → statement M
 accept-spec =

@@ -1,11 +1,26 @@
-use mathlib.Core.Path.{_≡_, sym, _∙_}
-use Rattle.channel.specs.Settings.{checked}
-use Rattle.decoder.specs.Decoding.{Frame, Memory, roomOf, decodeJudged}
+use mathlib.Core.Path.{sym, _∙_}
+use Prim.Native.Nat.{_*_, _/_, _≤_}
+use native.Mathlib.Omega.{arith}
+use lib.ListN.{length}
+use lib.Seq.{length-take-le}
+use Rattle.decoder.specs.Decoding.{Frame, Memory, roomOf}
 use Rattle.decoder.specs.Frames.{frame, memory}
-use Rattle.decoder.proofs.Accepting.{settingsFor, checked-refused, checked-good, checked-same, memory-told, ready, decodes-refused, decodes-ran}
+use Rattle.decoder.proofs.Beginning.{run-into}
+use Rattle.decoder.proofs.Accepting.{enough-told, decode-ready, decodes-refused, decodes-ran}
 use borrow.Author.Needs.{needs}
 use Rattle.decoder.proofs.decode.Statement.{statement}
 use Rattle.decoder.proofs.decode.Tie as tie
+
+abbrev F : tie.Start → Frame
+F s = frame (s .args .n) (s .args .starts .now) (s .args .columns .now) (s .args .values .now) (s .args .asked)
+
+abbrev M : tie.Start → Memory
+M s = let a = s .args in memory (a .levels .now) (a .variable-messages .now) (a .check-messages .now) (a .sums .now) (a .bits .now)
+
+-- each list of an accepted frame is long enough
+long : (c : tie.After-known-told2) → (let s = c .before .before .before .before .before .before .before .before .before .before .before .before in let n = s .args .n in let E = length (s .args .columns .now) / 2 in
+    (n ≤ length (M s .levels)) × (E ≤ length (M s .variableMessages)) × (E ≤ length (M s .checkMessages)) × (4 * n ≤ length (M s .sums)) × (n ≤ length (M s .bits)))
+long c = let s = c .before .before .before .before .before .before .before .before .before .before .before .before in enough-told (s .args .n) (length (s .args .columns .now) / 2) (roomOf (M s)) (decode-ready (F s) (M s) (sym (c .before .before .before .accept .ensures) ∙ c .before .c2 .given .1) .1)
 
 accept-requires : tie.Need-accept-requires
 accept-requires c κs = search needs
@@ -16,19 +31,47 @@ enum-known-c c = search needs
 enum-known-c-2 : tie.Need-enum-known-c-2
 enum-known-c-2 c = search needs
 
-decode-accepted-requires : tie.Need-decode-accepted-requires
-decode-accepted-requires c κs =
-    let F : Frame = frame (c .before .before .before .before .before .before .before .before .before .before .before .before .before .before .before .before .before .args .n) (c .before .before .before .before .before .before .before .before .before .before .before .before .before .before .before .before .before .args .starts .now) (c .before .before .before .before .before .before .before .before .before .before .before .before .before .before .before .before .before .args .columns .now) (c .before .before .before .before .before .before .before .before .before .before .before .before .before .before .before .before .before .args .values .now) (c .before .before .before .before .before .before .before .before .before .before .before .before .before .before .before .before .before .args .scaling) (c .before .before .before .before .before .before .before .before .before .before .before .before .before .before .before .before .before .args .channel) (c .before .before .before .before .before .before .before .before .before .before .before .before .before .before .before .before .before .args .message) (c .before .before .before .before .before .before .before .before .before .before .before .before .before .before .before .before .before .args .phi-s) (c .before .before .before .before .before .before .before .before .before .before .before .before .before .before .before .before .before .args .phi-a) (c .before .before .before .before .before .before .before .before .before .before .before .before .before .before .before .before .before .args .phi-0) (c .before .before .before .before .before .before .before .before .before .before .before .before .before .before .before .before .before .args .limit) in
-    let M : Memory = memory (c .before .before .before .before .before .before .before .before .before .before .before .before .before .before .before .before .before .args .levels .now) (c .before .before .before .before .before .before .before .before .before .before .before .before .before .before .before .before .before .args .variable-messages .now) (c .before .before .before .before .before .before .before .before .before .before .before .before .before .before .before .before .before .args .check-messages .now) (c .before .before .before .before .before .before .before .before .before .before .before .before .before .before .before .before .before .args .sums .now) (c .before .before .before .before .before .before .before .before .before .before .before .before .before .before .before .before .before .args .bits .now) in
-    let told : checked (decodeJudged F (roomOf M)) (settingsFor F) ≡ _ = sym (c .before .before .before .before .before .before .before .before .accept .ensures) ∙ c .before .before .before .before .before .before .c2 .given .1 in
-    let memory = memory-told F (roomOf M) (checked-good (decodeJudged F (roomOf M)) (settingsFor F) told) in
-    (ready F (memory .0) (checked-same (decodeJudged F (roomOf M)) (settingsFor F) told), memory .1)
+mul-w : tie.Need-mul-w
+mul-w c = let s = c .before .before .before .before .before .before .before .before .before .before .before .before in omega (arith, decode-ready (F s) (M s) (sym (c .before .before .before .accept .ensures) ∙ c .before .c2 .given .1) .0 .admitted .variables)
+
+slice-relend-prefix-decode-exactly : tie.Need-slice-relend-prefix-decode-exactly
+slice-relend-prefix-decode-exactly c = long (c) .0
+
+slice-aggregate-decode-exactly : tie.Need-slice-aggregate-decode-exactly
+slice-aggregate-decode-exactly c = let s = c .before .before .before .before .before .before .before .before .before .before .before .before .before in sym (length-take-le (s .args .n) (s .args .levels .now) (long (c .before) .0))
+
+slice-relend-prefix-decode-exactly-2 : tie.Need-slice-relend-prefix-decode-exactly-2
+slice-relend-prefix-decode-exactly-2 c = long (c .before) .1
+
+slice-aggregate-decode-exactly-2 : tie.Need-slice-aggregate-decode-exactly-2
+slice-aggregate-decode-exactly-2 c = let s = c .before .before .before .before .before .before .before .before .before .before .before .before .before .before in sym (length-take-le (length (s .args .columns .now) / 2) (s .args .variable-messages .now) (long (c .before .before) .1))
+
+slice-relend-prefix-decode-exactly-3 : tie.Need-slice-relend-prefix-decode-exactly-3
+slice-relend-prefix-decode-exactly-3 c = long (c .before .before) .2
+
+slice-aggregate-decode-exactly-3 : tie.Need-slice-aggregate-decode-exactly-3
+slice-aggregate-decode-exactly-3 c = let s = c .before .before .before .before .before .before .before .before .before .before .before .before .before .before .before in sym (length-take-le (length (s .args .columns .now) / 2) (s .args .check-messages .now) (long (c .before .before .before) .2))
+
+slice-relend-prefix-decode-exactly-4 : tie.Need-slice-relend-prefix-decode-exactly-4
+slice-relend-prefix-decode-exactly-4 c = long (c .before .before .before) .3
+
+slice-aggregate-decode-exactly-4 : tie.Need-slice-aggregate-decode-exactly-4
+slice-aggregate-decode-exactly-4 c = let s = c .before .before .before .before .before .before .before .before .before .before .before .before .before .before .before .before in sym (length-take-le (4 * s .args .n) (s .args .sums .now) (long (c .before .before .before .before) .3))
+
+slice-relend-prefix-decode-exactly-5 : tie.Need-slice-relend-prefix-decode-exactly-5
+slice-relend-prefix-decode-exactly-5 c = long (c .before .before .before .before) .4
+
+slice-aggregate-decode-exactly-5 : tie.Need-slice-aggregate-decode-exactly-5
+slice-aggregate-decode-exactly-5 c = let s = c .before .before .before .before .before .before .before .before .before .before .before .before .before .before .before .before .before in sym (length-take-le (s .args .n) (s .args .bits .now) (long (c .before .before .before .before .before) .4))
+
+decode-exactly-requires : tie.Need-decode-exactly-requires
+decode-exactly-requires c κs =
+    let s = c .before .before .before .before .before .before .before .before .before .before .before .before .before .before .before .before .before in
+    let l = long (c .before .before .before .before .before) in
+    (decode-ready (F s) (M s) (sym (c .before .before .before .before .before .before .before .before .accept .ensures) ∙ c .before .before .before .before .before .before .c2 .given .1) .0, (length-take-le (s .args .n) (s .args .levels .now) (l .0), length-take-le (length (s .args .columns .now) / 2) (s .args .variable-messages .now) (l .1), length-take-le (length (s .args .columns .now) / 2) (s .args .check-messages .now) (l .2), length-take-le (4 * s .args .n) (s .args .sums .now) (l .3), length-take-le (s .args .n) (s .args .bits .now) (l .4)))
 
 returns : tie.Need-returns
-returns c =
-    let F : Frame = frame (c .before .before .before .before .before .before .before .before .before .before .before .before .args .n) (c .before .before .before .before .before .before .before .before .before .before .before .before .args .starts .now) (c .before .before .before .before .before .before .before .before .before .before .before .before .args .columns .now) (c .before .before .before .before .before .before .before .before .before .before .before .before .args .values .now) (c .before .before .before .before .before .before .before .before .before .before .before .before .args .scaling) (c .before .before .before .before .before .before .before .before .before .before .before .before .args .channel) (c .before .before .before .before .before .before .before .before .before .before .before .before .args .message) (c .before .before .before .before .before .before .before .before .before .before .before .before .args .phi-s) (c .before .before .before .before .before .before .before .before .before .before .before .before .args .phi-a) (c .before .before .before .before .before .before .before .before .before .before .before .before .args .phi-0) (c .before .before .before .before .before .before .before .before .before .before .before .before .args .limit) in
-    let M : Memory = memory (c .before .before .before .before .before .before .before .before .before .before .before .before .args .levels .now) (c .before .before .before .before .before .before .before .before .before .before .before .before .args .variable-messages .now) (c .before .before .before .before .before .before .before .before .before .before .before .before .args .check-messages .now) (c .before .before .before .before .before .before .before .before .before .before .before .before .args .sums .now) (c .before .before .before .before .before .before .before .before .before .before .before .before .args .bits .now) in
-    decodes-refused F M (checked-refused (decodeJudged F (roomOf M)) (settingsFor F) (sym (c .before .before .before .accept .ensures) ∙ c .before .c .given .1))
+returns c = let s = c .before .before .before .before .before .before .before .before .before .before .before .before in decodes-refused (F s) (M s) (sym (c .before .before .before .accept .ensures) ∙ c .before .c .given .1)
 
 same-length : tie.Need-same-length
 same-length c = search needs
@@ -46,11 +89,7 @@ same-length-5 : tie.Need-same-length-5
 same-length-5 c = search needs
 
 returns-2 : tie.Need-returns-2
-returns-2 c =
-    let F : Frame = frame (c .before .before .before .before .before .before .before .before .before .before .before .before .before .before .before .before .before .before .before .before .before .before .before .before .before .before .before .before .args .n) (c .before .before .before .before .before .before .before .before .before .before .before .before .before .before .before .before .before .before .before .before .before .before .before .before .before .before .before .before .args .starts .now) (c .before .before .before .before .before .before .before .before .before .before .before .before .before .before .before .before .before .before .before .before .before .before .before .before .before .before .before .before .args .columns .now) (c .before .before .before .before .before .before .before .before .before .before .before .before .before .before .before .before .before .before .before .before .before .before .before .before .before .before .before .before .args .values .now) (c .before .before .before .before .before .before .before .before .before .before .before .before .before .before .before .before .before .before .before .before .before .before .before .before .before .before .before .before .args .scaling) (c .before .before .before .before .before .before .before .before .before .before .before .before .before .before .before .before .before .before .before .before .before .before .before .before .before .before .before .before .args .channel) (c .before .before .before .before .before .before .before .before .before .before .before .before .before .before .before .before .before .before .before .before .before .before .before .before .before .before .before .before .args .message) (c .before .before .before .before .before .before .before .before .before .before .before .before .before .before .before .before .before .before .before .before .before .before .before .before .before .before .before .before .args .phi-s) (c .before .before .before .before .before .before .before .before .before .before .before .before .before .before .before .before .before .before .before .before .before .before .before .before .before .before .before .before .args .phi-a) (c .before .before .before .before .before .before .before .before .before .before .before .before .before .before .before .before .before .before .before .before .before .before .before .before .before .before .before .before .args .phi-0) (c .before .before .before .before .before .before .before .before .before .before .before .before .before .before .before .before .before .before .before .before .before .before .before .before .before .before .before .before .args .limit) in
-    let M : Memory = memory (c .before .before .before .before .before .before .before .before .before .before .before .before .before .before .before .before .before .before .before .before .before .before .before .before .before .before .before .before .args .levels .now) (c .before .before .before .before .before .before .before .before .before .before .before .before .before .before .before .before .before .before .before .before .before .before .before .before .before .before .before .before .args .variable-messages .now) (c .before .before .before .before .before .before .before .before .before .before .before .before .before .before .before .before .before .before .before .before .before .before .before .before .before .before .before .before .args .check-messages .now) (c .before .before .before .before .before .before .before .before .before .before .before .before .before .before .before .before .before .before .before .before .before .before .before .before .before .before .before .before .args .sums .now) (c .before .before .before .before .before .before .before .before .before .before .before .before .before .before .before .before .before .before .before .before .before .before .before .before .before .before .before .before .args .bits .now) in
-    let told : checked (decodeJudged F (roomOf M)) (settingsFor F) ≡ _ = sym (c .before .before .before .before .before .before .before .before .before .before .before .before .before .before .before .before .before .before .before .accept .ensures) ∙ c .before .before .before .before .before .before .before .before .before .before .before .before .before .before .before .before .before .c2 .given .1 in
-    decodes-ran F M _ (checked-good (decodeJudged F (roomOf M)) (settingsFor F) told) (checked-same (decodeJudged F (roomOf M)) (settingsFor F) told) (c .before .before .before .before .before .before .before .before .before .before .decode-accepted .ensures)
+returns-2 c = let s = c .before .before .before .before .before .before .before .before .before .before .before .before .before .before .before .before .before .before .before .before .before .before .before .before .before .before .before .before in decodes-ran (F s) (M s) (sym (c .before .before .before .before .before .before .before .before .before .before .before .before .before .before .before .before .before .before .before .accept .ensures) ∙ c .before .before .before .before .before .before .before .before .before .before .before .before .before .before .before .before .before .c2 .given .1) (run-into (M s) (c .before .before .before .before .before .before .before .before .before .before .decode-exactly .ensures))
 
 pub decode-spec : {M : Type 1} → statement M
 decode-spec =
@@ -59,7 +98,18 @@ decode-spec =
     accept-requires
     enum-known-c
     enum-known-c-2
-    decode-accepted-requires
+    mul-w
+    slice-relend-prefix-decode-exactly
+    slice-aggregate-decode-exactly
+    slice-relend-prefix-decode-exactly-2
+    slice-aggregate-decode-exactly-2
+    slice-relend-prefix-decode-exactly-3
+    slice-aggregate-decode-exactly-3
+    slice-relend-prefix-decode-exactly-4
+    slice-aggregate-decode-exactly-4
+    slice-relend-prefix-decode-exactly-5
+    slice-aggregate-decode-exactly-5
+    decode-exactly-requires
     returns
     same-length
     same-length-2

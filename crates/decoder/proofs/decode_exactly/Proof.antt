@@ -1,13 +1,13 @@
 use mathlib.Core.Path.{ap, _∙_}
-use native.Mathlib.Omega.{arith}
 use Prim.Native.Nat.{ℕ}
+use native.Mathlib.Omega.{arith}
 use lib.ListN.{getD, getD-replicate, length-replicate}
 use Rattle.rules.specs.Ranges.{tabulate}
 use Rattle.rules.specs.Levels.{byte}
 use Rattle.rules.specs.Graphs.{limits}
+use Rattle.rules.proofs.Own.{largest-within}
 use Rattle.words.specs.Roles.{graphOf}
 use Rattle.graph.proofs.Loops.{tallied-degree}
-use Rattle.channel.proofs.Magnitudes.{largest-within}
 use Rattle.decoder.specs.Steps.{offsetsIn, levelsUnder}
 use Rattle.decoder.proofs.Beginning.{begins-as, begun-length, begun-holds, begun-levels, ready-sized, runs-same}
 use borrow.Author.Needs.{needs}
@@ -46,16 +46,16 @@ slice-aggregate-run c = search needs
 run-requires : tie.Need-run-requires
 run-requires c κs =
     let z = c .before .before .before .before .before .before .before .before .before .before .before .before .before .before .before .before .before .before .before .before .before .before .before .before .before .before .before .before .before .before .before .before .before .before .before .pre .0 in
+    let long = c .before .before .before .before .before .before .before .before .before .before .before .before .before .before .before .before .before .before .before .before .before .before .before .before .before .before .before .before .before .before .before .before .before .before .before .pre .1 in
     let a = c .before .before .before .before .before .before .before .before .before .before .before .before .before .before .before .before .before .before .before .before .before .before .before .before .before .before .before .before .before .before .before .before .before .before .before .args in
-    let w = begins-as (c .before .before .before .before .before .before .before .before .before .before .before .before .before .before .before .before .before .before .before .before .before .before .before .largest .ensures) (c .before .before .before .before .before .before .before .before .before .before .before .before .before .before .before .before .before .before .before .before .before .before .largest2 .ensures) (c .before .before .before .before .before .before .before .before .before .before .before .before .before .before .before .before .begin .ensures) in (
-      (
-        z .settings,
-        ready-sized (a .n) (a .starts .now) (a .columns .now) (z .admitted) (c .before .before .before .before .before .before .before .before .before .before .before .before .before .before .before .before .before .before .before .before .before .before .before .before .before .count-degrees .kept .1 .0 ∙ length-replicate {A = ℕ} (limits .variables) 0) (λ v l. ap (λ l. getD l v 0) (c .before .before .before .before .before .before .before .before .before .before .before .before .before .before .before .before .before .before .before .before .before .before .before .before .before .count-degrees .ensures) ∙ tallied-degree _ _ _ v (omega (arith, z .admitted .entries)) l (getD-replicate (limits .variables) v 0 0 l))
-            (begun-length (a .n) (a .starts .now) (a .columns .now) _ (offsetsIn (a .s)) w (z .count))
-            (c .before .before .before .before .before .before .before .before .before .before .before .before .before .before .before .before .begin .kept .1 .1 .1 .1 .1 .1 .0 ∙ c .before .before .before .before .before .before .before .before .before .before .before .before .before .before .before .before .before .before .before .before .before .before .before .before .before .before .before .before .before .before .before .before .before .before .before .pre .1 .1) (c .before .before .before .before .before .before .before .before .before .before .before .before .before .before .before .before .begin .kept .1 .1 .1 .1 .1 .1 .1 .0 ∙ c .before .before .before .before .before .before .before .before .before .before .before .before .before .before .before .before .before .before .before .before .before .before .before .before .before .before .before .before .before .before .before .before .before .before .before .pre .1 .2) (c .before .before .before .before .before .before .before .before .before .before .before .before .before .before .before .before .begin .kept .1 .1 .1 .1 .1 .1 .1 .1 .0 ∙ c .before .before .before .before .before .before .before .before .before .before .before .before .before .before .before .before .before .before .before .before .before .before .before .before .before .before .before .before .before .before .before .before .before .before .before .pre .1 .3) (c .before .before .before .before .before .before .before .before .before .before .before .before .before .before .before .before .begin .kept .1 .1 .1 .1 .1 .1 .1 .1 .1 .0 ∙ c .before .before .before .before .before .before .before .before .before .before .before .before .before .before .before .before .before .before .before .before .before .before .before .before .before .before .before .before .before .before .before .before .before .before .before .pre .1 .4),
-      ),
-      begun-holds (a .n) (a .starts .now) (a .columns .now) _ (offsetsIn (a .s)) w (z .count) (c .before .before .before .before .before .before .before .before .before .before .before .before .before .before .before .before .before .before .before .before .before .before .before .before .before .before .before .before .before .before .before .before .before .before .before .pre .1 .2) (c .before .before .before .before .before .before .before .before .before .before .before .before .before .before .before .before .before .before .before .before .before .before .before .before .before .before .before .before .before .before .before .before .before .before .before .pre .1 .3),
-    )
+    let kept = c .before .before .before .before .before .before .before .before .before .before .before .before .before .before .before .before .begin .kept .1 .1 .1 .1 .1 .1 in
+    let w = begins-as (c .before .before .before .before .before .before .before .before .before .before .before .before .before .before .before .before .before .before .before .before .before .before .before .largest .ensures) (c .before .before .before .before .before .before .before .before .before .before .before .before .before .before .before .before .before .before .before .before .before .before .largest2 .ensures) (c .before .before .before .before .before .before .before .before .before .before .before .before .before .before .before .before .begin .ensures) in
+    record {
+      settings = z .settings;
+      sized = ready-sized (a .n) (a .starts .now) (a .columns .now) (z .admitted) (c .before .before .before .before .before .before .before .before .before .before .before .before .before .before .before .before .before .before .before .before .before .before .before .before .before .count-degrees .kept .1 .0 ∙ length-replicate {A = ℕ} (limits .variables) 0) (λ v l. ap (λ l. getD l v 0) (c .before .before .before .before .before .before .before .before .before .before .before .before .before .before .before .before .before .before .before .before .before .before .before .before .before .count-degrees .ensures) ∙ tallied-degree _ _ _ v (omega (arith, z .admitted .entries)) l (getD-replicate (limits .variables) v 0 0 l))
+          (begun-length (a .n) (a .starts .now) (a .columns .now) _ (offsetsIn (a .s)) w (z .count)) (kept .0 ∙ long .1) (kept .1 .0 ∙ long .2) (kept .1 .1 .0 ∙ long .3) (kept .1 .1 .1 .0 ∙ long .4);
+      holds = begun-holds (a .n) (a .starts .now) (a .columns .now) _ (offsetsIn (a .s)) w (z .count) (long .2) (long .3);
+    }
 
 same-length : tie.Need-same-length
 same-length c = search needs

@@ -1,12 +1,24 @@
 use mathlib.Core.Path.{sym, ap, _∙_}
 use Rattle.channel.specs.declared.Scaling.{Scaling}
-use Rattle.decoder.specs.Decoding.{Frame, Room, decodeJudged}
+use Rattle.channel.specs.declared.Parameters.{Parameters}
+use Rattle.channel.specs.Settings.{settings}
+use Rattle.decoder.specs.declared.Room.{Room}
+use Rattle.decoder.specs.Decoding.{Frame, decodeJudged}
 use Rattle.decoder.specs.Frames.{frame, room}
-use Rattle.decoder.proofs.Accepting.{settingsFor, checked-refused, checked-good}
-use Rattle.host.specs.Packing.{placeOf}
+use Rattle.decoder.proofs.Accepting.{checked-refused, checked-good}
+use Rattle.host.specs.Packing.{askedOf, placeOf}
 use borrow.Author.Needs.{needs}
 use Rattle.host.proofs.frame_decode_place.Statement.{statement}
 use Rattle.host.proofs.frame_decode_place.Tie as tie
+
+abbrev asked : tie.Start → Scaling → Parameters
+asked s scaling = let a = s .args in askedOf scaling (a .channel) (a .message) (a .phi-s) (a .phi-a) (a .phi-0) (a .limit)
+
+abbrev F : tie.Start → Scaling → Frame
+F s scaling = frame (s .args .n) (s .args .starts .now) (s .args .columns .now) (s .args .values .now) (asked s scaling)
+
+abbrev m : tie.Start → Room
+m s = room (s .args .levels) (s .args .variable-messages) (s .args .check-messages) (s .args .sums) (s .args .bits)
 
 scaling-of-requires : tie.Need-scaling-of-requires
 scaling-of-requires c κs = search needs
@@ -25,18 +37,18 @@ enum-told c = search needs
 
 returns : tie.Need-returns
 returns c =
-    let F : Scaling → Frame = λ s. frame (c .before .before .before .before .before .before .before .before .before .args .n) (c .before .before .before .before .before .before .before .before .before .args .starts .now) (c .before .before .before .before .before .before .before .before .before .args .columns .now) (c .before .before .before .before .before .before .before .before .before .args .values .now) s (c .before .before .before .before .before .before .before .before .before .args .channel) (c .before .before .before .before .before .before .before .before .before .args .message) (c .before .before .before .before .before .before .before .before .before .args .phi-s) (c .before .before .before .before .before .before .before .before .before .args .phi-a) (c .before .before .before .before .before .before .before .before .before .args .phi-0) (c .before .before .before .before .before .before .before .before .before .args .limit) in
-    let m : Room = room (c .before .before .before .before .before .before .before .before .before .args .levels) (c .before .before .before .before .before .before .before .before .before .args .variable-messages) (c .before .before .before .before .before .before .before .before .before .args .check-messages) (c .before .before .before .before .before .before .before .before .before .args .sums) (c .before .before .before .before .before .before .before .before .before .args .bits) in
+    let s = c .before .before .before .before .before .before .before .before .before in
+    let x = c .before .before .before .before .before .scaling-of .result in
     ap (λ k. k .place) (c .numbered .ensures)
-    ∙ sym (ap placeOf (checked-refused (decodeJudged (F (c .before .before .before .before .before .scaling-of .result)) m) (settingsFor (F (c .before .before .before .before .before .scaling-of .result))) (sym (c .before .before .before .before .accept .ensures) ∙ c .before .before .c .given .1)))
-    ∙ ap (λ s. placeOf (decodeJudged (F s) m)) (c .before .before .before .before .before .scaling-of .ensures)
+    ∙ sym (ap placeOf (checked-refused (decodeJudged (F s x) (m s)) (settings (asked s x)) (sym (c .before .before .before .before .accept .ensures) ∙ c .before .before .c .given .1)))
+    ∙ ap (λ z. placeOf (decodeJudged (F s z) (m s))) (c .before .before .before .before .before .scaling-of .ensures)
 
 returns-2 : tie.Need-returns-2
 returns-2 c =
-    let F : Scaling → Frame = λ s. frame (c .before .before .before .before .before .before .before .args .n) (c .before .before .before .before .before .before .before .args .starts .now) (c .before .before .before .before .before .before .before .args .columns .now) (c .before .before .before .before .before .before .before .args .values .now) s (c .before .before .before .before .before .before .before .args .channel) (c .before .before .before .before .before .before .before .args .message) (c .before .before .before .before .before .before .before .args .phi-s) (c .before .before .before .before .before .before .before .args .phi-a) (c .before .before .before .before .before .before .before .args .phi-0) (c .before .before .before .before .before .before .before .args .limit) in
-    let m : Room = room (c .before .before .before .before .before .before .before .args .levels) (c .before .before .before .before .before .before .before .args .variable-messages) (c .before .before .before .before .before .before .before .args .check-messages) (c .before .before .before .before .before .before .before .args .sums) (c .before .before .before .before .before .before .before .args .bits) in
-    sym (ap placeOf (checked-good (decodeJudged (F (c .before .before .before .scaling-of .result)) m) (settingsFor (F (c .before .before .before .scaling-of .result))) (sym (c .before .before .accept .ensures) ∙ c .enum-told .given .1)))
-    ∙ ap (λ s. placeOf (decodeJudged (F s) m)) (c .before .before .before .scaling-of .ensures)
+    let s = c .before .before .before .before .before .before .before in
+    let x = c .before .before .before .scaling-of .result in
+    sym (ap placeOf (checked-good (decodeJudged (F s x) (m s)) (settings (asked s x)) (sym (c .before .before .accept .ensures) ∙ c .enum-told .given .1)))
+    ∙ ap (λ z. placeOf (decodeJudged (F s z) (m s))) (c .before .before .before .scaling-of .ensures)
 
 pub frame-decode-place-spec : {M : Type 1} → statement M
 frame-decode-place-spec =

@@ -3,28 +3,35 @@ use Rattle.decoder.proofs.Stepping.{rows-of, part-small, iterated-is}
 use borrow.Author.Needs.{needs}
 use Rattle.decoder.proofs.step.iterate.Statement.{statement}
 use Rattle.decoder.proofs.step.iterate.Tie as tie
+use Rattle.nodes.proofs.check.check_nodes.Reads as check-nodes-reads
+use Rattle.nodes.proofs.sums.add_messages.Reads as add-messages-reads
+use Rattle.nodes.proofs.sums.channel_parts.Reads as channel-parts-reads
+use Rattle.nodes.proofs.sums.decide.Reads as decide-reads
 
 check-nodes-requires : tie.Need-check-nodes-requires
-check-nodes-requires c κs = (rows-of (c .before .before .before .before .before .before .before .before .before .args .n) (c .before .before .before .before .before .before .before .before .before .args .starts .now) (c .before .before .before .before .before .before .before .before .before .args .columns .now) (c .before .before .before .before .before .before .before .before .before .pre .admitted) _ (c .before .before .before .before .before .before .before .before .before .pre .variableMessages), omega (arith, c .before .before .before .before .before .before .before .before .before .pre .variableMessages, c .before .before .before .before .before .before .before .before .before .pre .checkMessages))
+check-nodes-requires c κs =
+    let a = c .before .before .before .before .before .before .before .before .before .args in
+    let z = c .before .before .before .before .before .before .before .before .before .pre .0 in
+    (rows-of (a .n) (a .starts .now) (a .columns .now) (z .admitted) _ (z .variableMessages), omega (arith, z .variableMessages, z .checkMessages))
 
 channel-parts-requires : tie.Need-channel-parts-requires
-channel-parts-requires c κs = omega (arith, c .before .before .before .before .before .before .before .before .before .before .before .before .before .pre .sums, c .before .before .before .before .before .before .before .before .before .before .before .before .before .pre .levels, c .before .before .before .before .before .before .before .before .before .before .before .before .before .pre .enough)
+channel-parts-requires c κs = let z = c .before .before .before .before .before .before .before .before .before .before .before .before .before .pre .0 in omega (arith, z .sums, z .levels, z .enough)
 
 add-messages-requires : tie.Need-add-messages-requires
 add-messages-requires c κs =
     let a = c .before .before .before .before .before .before .before .before .before .before .before .before .before .before .before .before .before .before .args in
-    let ok = c .before .before .before .before .before .before .before .before .before .before .before .before .before .before .before .before .before .before .pre .admitted in
+    let z = c .before .before .before .before .before .before .before .before .before .before .before .before .before .before .before .before .before .before .pre .0 in
     let long = c .before .before .before .before .before .before .before .before .check-nodes .kept .1 .1 .0 in
     let parts = c .before .before .before .before .channel-parts .kept .1 .1 .0 in (
-      (omega (arith, c .before .before .before .before .before .before .before .before .before .before .before .before .before .before .before .before .before .before .pre .checkMessages), omega (arith, c .before .before .before .before .before .before .before .before .before .before .before .before .before .before .before .before .before .before .pre .checkMessages, ok .entries)),
+      (omega (arith, z .checkMessages), omega (arith, z .checkMessages, z .admitted .entries), c .before .before .before .before .before .before .before .before .before .before .before .before .before .before .before .before .before .before .pre .1),
       (
-        (λ e h. omega (arith, c .before .before .before .before .before .before .before .before .before .before .before .before .before .before .before .before .before .before .pre .sums, ok .within e (omega (arith, c .before .before .before .before .before .before .before .before .before .before .before .before .before .before .before .before .before .before .pre .checkMessages)))),
-        (λ v h. part-small (a .n) (a .starts .now) (a .columns .now) ok (c .before .before .before .before .before .before .before .before .before .before .before .before .before .before .before .before .before .before .pre) (c .before .before .before .before .channel-parts .ensures) v (omega (arith, c .before .before .before .before .before .before .before .before .before .before .before .before .before .before .before .before .before .before .pre .sums))),
+        (λ e h. omega (arith, z .sums, z .admitted .within e (omega (arith, z .checkMessages)))),
+        (λ v h. part-small (a .n) (a .starts .now) (a .columns .now) (z .admitted) z (c .before .before .before .before .channel-parts .ensures) v (omega (arith, z .sums))),
       ),
     )
 
 decide-requires : tie.Need-decide-requires
-decide-requires c κs = omega (arith, c .before .before .before .before .before .before .before .before .before .before .before .before .before .before .before .before .before .before .before .before .before .before .before .pre .sums, c .before .before .before .before .before .before .before .before .before .before .before .before .before .before .before .before .before .before .before .before .before .before .before .pre .levels, c .before .before .before .before .before .before .before .before .before .before .before .before .before .before .before .before .before .before .before .before .before .before .before .pre .bits, c .before .before .before .before .before .before .before .before .before .channel-parts .kept .1 .1 .0, c .before .before .before .before .add-messages .kept .1 .1 .0)
+decide-requires c κs = let z = c .before .before .before .before .before .before .before .before .before .before .before .before .before .before .before .before .before .before .before .before .before .before .before .pre .0 in omega (arith, z .sums, z .levels, z .bits, c .before .before .before .before .before .before .before .before .before .channel-parts .kept .1 .1 .0, c .before .before .before .before .add-messages .kept .1 .1 .1 .0)
 
 same-length : tie.Need-same-length
 same-length c = search needs
@@ -38,8 +45,8 @@ same-length-3 c = search needs
 returns : tie.Need-returns
 returns c =
     let a = c .before .before .before .before .before .before .before .before .before .before .before .before .before .before .before .before .before .before .before .before .before .before .before .before .before .before .args in
-    iterated-is (a .n) (a .starts .now) (a .columns .now) (c .before .before .before .before .before .before .before .before .before .before .before .before .before .before .before .before .before .before .before .before .before .before .before .before .before .before .pre .admitted) (c .before .before .before .before .before .before .before .before .before .before .before .before .before .before .before .before .before .before .before .before .before .before .before .before .before .before .pre) (c .before .before .before .before .before .before .before .before .before .before .before .before .channel-parts .ensures) (c .before .before .before .before .before .before .before .before .before .before .before .before .before .before .before .before .check-nodes .ensures) (c .before .before .before .before .before .before .before .before .before .before .before .before .before .before .before .before .check-nodes .kept .1 .1 .0)
-    (c .before .before .before .before .before .before .before .add-messages .ensures) (c .before .before .decide .ensures)
+    let z = c .before .before .before .before .before .before .before .before .before .before .before .before .before .before .before .before .before .before .before .before .before .before .before .before .before .before .pre .0 in
+    iterated-is (a .n) (a .starts .now) (a .columns .now) (z .admitted) z (c .before .before .before .before .before .before .before .before .before .before .before .before .channel-parts .ensures) (c .before .before .before .before .before .before .before .before .before .before .before .before .before .before .before .before .before .before .before .before .before .before .before .before .before .before .pre .1) (c .before .before .before .before .before .before .before .before .before .before .before .before .before .before .before .before .check-nodes .ensures) (c .before .before .before .before .before .before .before .before .before .before .before .before .before .before .before .before .check-nodes .kept .1 .1 .0) (c .before .before .before .before .before .before .before .add-messages .ensures) (c .before .before .decide .ensures)
 
 pub iterate-spec : {M : Type 1} → statement M
 iterate-spec =

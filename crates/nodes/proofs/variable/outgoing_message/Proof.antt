@@ -1,49 +1,39 @@
-use mathlib.Core.Path.{ap}
+use Prim.Native.Nat.{_-_, _/_}
 use native.Mathlib.Omega.{arith}
-use lib.ListN.{getD}
-use Rattle.nodes.proofs.Signed.{read-is}
-use Rattle.nodes.proofs.Table.{byte-by}
+use Rattle.nodes.proofs.Table.{message-below, message-above}
 use borrow.Author.Needs.{needs}
 use Rattle.nodes.proofs.variable.outgoing_message.Statement.{statement}
 use Rattle.nodes.proofs.variable.outgoing_message.Tie as tie
 
-size-of-requires : tie.Need-size-of-requires
-size-of-requires c κs = search needs
+sub-result : tie.Need-sub-result
+sub-result c = search needs
+
+shared-slice-read-result : tie.Need-shared-slice-read-result
+shared-slice-read-result c = search needs
+
+add-result : tie.Need-add-result
+add-result c = let s = c .before .before .before in omega (arith, s .pre .1 ((16 - s .args .k) / 2))
 
 half-requires : tie.Need-half-requires
 half-requires c κs = search needs
 
-shared-slice-read-byte-of : tie.Need-shared-slice-read-byte-of
-shared-slice-read-byte-of c = search needs
-
-byte-of-requires : tie.Need-byte-of-requires
-byte-of-requires c κs = c .before .before .before .before .before .pre .1 (c .before .before .half .result)
-
-shared-slice-read-byte-of-2 : tie.Need-shared-slice-read-byte-of-2
-shared-slice-read-byte-of-2 c = search needs
-
-byte-of-requires-2 : tie.Need-byte-of-requires-2
-byte-of-requires-2 c κs = c .before .before .before .before .before .pre .1 _
+shared-slice-read-result-2 : tie.Need-shared-slice-read-result-2
+shared-slice-read-result-2 c = search needs
 
 returns : tie.Need-returns
-returns c =
-    let nine = c .before .before .before .before .before .before .args .nine .now in
-    byte-by nine (read-is (c .before .before .before .before .before .before .args .u) (c .before .before .before .before .before .before .pre .0 .0)) (c .before .before .before .before .size-of .ensures) (c .before .before .before .half .ensures) (ap (λ k. getD nine k 0) (omega arith)) (c .byte-of .ensures)
+returns c = let s = c .before .before .before in message-below (s .args .nine .now) (s .args .k) (c .before .if1 .taken)
 
 returns-2 : tie.Need-returns-2
-returns-2 c =
-    let nine = c .before .before .before .before .before .before .args .nine .now in
-    byte-by nine (read-is (c .before .before .before .before .before .before .args .u) (c .before .before .before .before .before .before .pre .0 .0)) (c .before .before .before .before .size-of .ensures) (c .before .before .before .half .ensures) (ap (λ k. getD nine k 0) (omega arith)) (c .byte-of2 .ensures)
+returns-2 c = let s = c .before .before .before .before in message-above (s .args .nine .now) (s .args .k) (c .before .before .if1 .left) (s .pre .0 .0) (c .before .half .ensures)
 
 pub outgoing-message-spec : {M : Type 1} → statement M
 outgoing-message-spec =
     tie.close
     (tie.spec
-    size-of-requires
+    sub-result
+    shared-slice-read-result
+    add-result
     half-requires
-    shared-slice-read-byte-of
-    byte-of-requires
-    shared-slice-read-byte-of-2
-    byte-of-requires-2
+    shared-slice-read-result-2
     returns
     returns-2)

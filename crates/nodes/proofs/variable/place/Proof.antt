@@ -1,4 +1,3 @@
-use native.Mathlib.Omega.{arith}
 use Rattle.nodes.proofs.Signed.{read-is}
 use Rattle.nodes.proofs.Outgoing.{far-below, far-above, near-fits, near-place, near}
 use Rattle.nodes.proofs.variable.place.Statement.{statement}
@@ -17,10 +16,10 @@ cast-result c =
     near-place u (c .before .before .pre) (rw is at (c .before .if1 .left)) (rw is at (c .if2 .left))
 
 returns : tie.Need-returns
-returns c = (omega arith, λ nine. far-below nine (c .before .args .u) (rw (read-is (c .before .args .u) (c .before .pre)) at (c .if1 .taken)))
+returns c = far-below (c .before .args .u) (rw (read-is (c .before .args .u) (c .before .pre)) at (c .if1 .taken))
 
 returns-2 : tie.Need-returns-2
-returns-2 c = (omega arith, λ nine. far-above nine (c .before .before .args .u) (rw (read-is (c .before .before .args .u) (c .before .before .pre)) at (c .if2 .taken)))
+returns-2 c = far-above (c .before .before .args .u) (rw (read-is (c .before .before .args .u) (c .before .before .pre)) at (c .if2 .taken))
 
 returns-3 : tie.Need-returns-3
 returns-3 c =

@@ -1,63 +1,51 @@
 use borrow.Author.Needs.{needs}
-use mathlib.Core.Path.{_≡_, ap, ap₂, _∙_}
-use mathlib.Core.List.{List}
-use Prim.Native.Nat.{ℕ, _≤_, _<_, _-_, _+_, _/_, _^_}
+use mathlib.Core.Path.{_≡_, ap, _∙_}
+use Prim.Native.Nat.{_≤_, _<_, _-_, _+_, _/_, _^_}
 use native.Mathlib.Omega.{arith}
-use lib.IntN.{ℤ, pos, natAbs, _-ℤ_}
+use lib.IntN.{ℤ, natAbs, _-ℤ_}
 use lib.ListN.{length, getD}
-use Rattle.rules.specs.Levels.{byte}
-use Rattle.rules.specs.Nodes.{contribution}
 use Rattle.rules.proofs.Filling.{Filled, filled-none, filled-more, filled-all}
 use Rattle.words.specs.Roles.{columnAt, sumAt}
-use Rattle.nodes.specs.Memory.{levelIn}
-use Rattle.nodes.specs.Magnitudes.{outgoingBy}
+use Rattle.nodes.specs.Lists.{partIn, placeOf, sentBy}
 use Rattle.nodes.proofs.Signed.{less-fits, less-is, less-abs}
-use Rattle.nodes.proofs.SumLaws.{contribution-small, part-at}
-use Rattle.nodes.proofs.Outgoing.{message-at}
+use Rattle.nodes.proofs.Outgoing.{place-low}
 use Rattle.nodes.proofs.variable.variable_nodes.Statement.{statement}
 use Rattle.nodes.proofs.variable.variable_nodes.Tie as tie
 
-abbrev sent : List ℕ → List ℕ → List ℕ → List ℕ → ℕ → ℕ
-sent columns incoming sums nine e = byte (outgoingBy nine (sumAt sums (columnAt columns e) -ℤ contribution 1 (levelIn incoming e)))
-
 abbrev Inv-loop : tie.InvT-loop
-Inv-loop columns incoming sums nine outgoing₀ parts messages e₀ outgoing e = (e ≤ length incoming) × Filled (sent columns incoming sums nine) outgoing₀ outgoing e
+Inv-loop columns incoming sums parts messages outgoing₀ e₀ outgoing e =
+    (e ≤ length incoming) × Filled (sentBy parts messages (columnAt columns) sums incoming) outgoing₀ outgoing e
 
 abbrev μ-loop : tie.MeasureT-loop
-μ-loop columns incoming sums nine outgoing₀ parts messages e₀ outgoing e = length incoming - e
+μ-loop columns incoming sums parts messages outgoing₀ e₀ outgoing e = length incoming - e
 
 -- the entry's variable has a sum
-low : (c : tie.After-column Inv-loop μ-loop) → c .column .result < length (c .before .before .before .before .before .before .before .before .before .before .args .sums .now) / 4
-low c = rw (c .column .ensures .0) (c .before .before .before .before .before .before .before .before .before .before .pre .1 .1 .0 (c .before .before .loop .e) (omega arith))
-
--- the sum that was read
-read : (c : tie.After-sum Inv-loop μ-loop) → c .sum .result ≡ sumAt (c .before .before .before .before .before .before .before .before .before .before .before .args .sums .now) (columnAt (c .before .before .before .before .before .before .before .before .before .before .before .args .columns .now) (c .before .before .before .loop .e))
-read c = c .sum .ensures ∙ ap (sumAt (c .before .before .before .before .before .before .before .before .before .before .before .args .sums .now)) (c .before .column .ensures .0)
+low : (c : tie.After-column Inv-loop μ-loop) → c .column .result < length (c .before .before .before .before .before .before .before .before .args .sums .now) / 4
+low c = rw (c .column .ensures .0) (c .before .before .before .before .before .before .before .before .pre .1 .0 (c .before .before .loop .e) (omega arith))
 
 -- the part of the message that came in
 abbrev part : tie.After-place-arg Inv-loop μ-loop → ℤ
-part c = getD (c .before .before .before .before .before .before .before .contributions .result) (getD (c .before .before .before .before .before .before .before .before .before .before .before .before .before .args .incoming .now) (c .before .before .before .before .before .loop .e) 0) (pos 0)
-
-part-is : (c : tie.After-place-arg Inv-loop μ-loop) → part c ≡ contribution 1 (levelIn (c .before .before .before .before .before .before .before .before .before .before .before .before .before .args .incoming .now) (c .before .before .before .before .before .loop .e))
-part-is c = part-at (c .before .before .before .before .before .before .before .contributions .ensures) (c .before .shared-slice-known5 .given (c .before .before .before .before .before .loop .e) .fits)
+part c = let a = c .before .before .before .before .before .before .before .before .before .before .before .args in partIn (a .parts .now) (a .incoming .now) (c .before .before .before .before .before .loop .e)
 
 -- the sum and the part are small
 few : (c : tie.After-place-arg Inv-loop μ-loop) → natAbs (c .before .before .sum .result) + natAbs (part c) < 2 ^ 31
 few c =
-    let a = c .before .before .before .before .before .before .before .before .before .before .before .before .before in
+    let a = c .before .before .before .before .before .before .before .before .before .before .before in
     omega (
       arith,
       ap natAbs (c .before .before .sum .ensures),
-      a .pre .1 .1 .1 (c .before .before .before .column .result) (low (c .before .before .before)),
-      ap natAbs (part-is c),
-      contribution-small (getD (a .args .incoming .now) (c .before .before .before .before .before .loop .e) 0),
+      a .pre .1 .1 (c .before .before .before .column .result) (low (c .before .before .before)),
+      a .pre .0 .2 .small (getD (a .args .incoming .now) (c .before .before .before .before .before .loop .e) 0),
     )
 
-contributions-requires : tie.Need-contributions-requires Inv-loop μ-loop
-contributions-requires c κs = tt
+-- the sum without the part
+abbrev rest : tie.After-place Inv-loop μ-loop → ℤ
+rest c = let a = c .before .before .before .before .before .before .before .before .before .before .before .before .args in sumAt (a .sums .now) (columnAt (a .columns .now) (c .before .before .before .before .before .before .loop .e)) -ℤ part (c .before)
 
-outgoing-messages-requires : tie.Need-outgoing-messages-requires Inv-loop μ-loop
-outgoing-messages-requires c κs = search needs
+place-is : (c : tie.After-place Inv-loop μ-loop) → c .place .result ≡ placeOf (rest c)
+place-is c =
+    c .place .ensures ∙ ap placeOf (less-is (c .before .before .before .sum .result) (part (c .before)) (few (c .before))
+    ∙ ap (λ s. s -ℤ part (c .before)) (c .before .before .before .sum .ensures ∙ ap (sumAt (c .before .before .before .before .before .before .before .before .before .before .before .before .args .sums .now)) (c .before .before .before .before .column .ensures .0)))
 
 loop-holds : tie.Need-loop-holds Inv-loop μ-loop
 loop-holds c = (omega arith, filled-none _ _)
@@ -77,8 +65,8 @@ cast-place c = omega (arith, c .shared-slice-known5 .given (c .before .before .b
 mul-place : tie.Need-mul-place Inv-loop μ-loop
 mul-place c = omega (arith, c .shared-slice-known5 .given (c .before .before .before .before .loop .e))
 
-array-copy-out-place : tie.Need-array-copy-out-place Inv-loop μ-loop
-array-copy-out-place c = omega (arith, c .shared-slice-known5 .given (c .before .before .before .before .loop .e))
+shared-slice-copy-out-place : tie.Need-shared-slice-copy-out-place Inv-loop μ-loop
+shared-slice-copy-out-place c = omega (arith, c .before .before .before .before .before .before .before .before .before .before .pre .0 .2 .long, c .shared-slice-known5 .given (c .before .before .before .before .loop .e))
 
 sub-place : tie.Need-sub-place Inv-loop μ-loop
 sub-place c = less-fits (c .before .before .sum .result) (part c) (few c)
@@ -86,8 +74,8 @@ sub-place c = less-fits (c .before .before .sum .result) (part c) (few c)
 place-requires : tie.Need-place-requires Inv-loop μ-loop
 place-requires c κs = rw (less-is (c .before .before .sum .result) (part c) (few c)) (omega (arith, less-abs (c .before .before .sum .result) (part c) (few c), few c))
 
-array-read-outgoing : tie.Need-array-read-outgoing Inv-loop μ-loop
-array-read-outgoing c = c .place .ensures .0
+shared-slice-read-outgoing : tie.Need-shared-slice-read-outgoing Inv-loop μ-loop
+shared-slice-read-outgoing c = omega (arith, place-is (c .before), place-low (rest (c .before)))
 
 slice-write-outgoing : tie.Need-slice-write-outgoing Inv-loop μ-loop
 slice-write-outgoing c = search needs
@@ -99,12 +87,7 @@ loop-less : tie.Need-loop-less Inv-loop μ-loop
 loop-less c = search needs
 
 loop-again : tie.Need-loop-again Inv-loop μ-loop
-loop-again c =
-    let p = c .before in (
-      omega arith,
-      filled-more (omega arith) (c .before .before .before .before .before .before .loop .inv .1) (message-at (c .before .before .before .before .before .before .before .before .before .before .before .before .before .before .args .nine .now) (c .before .before .before .before .before .before .before .outgoing-messages .ensures) (c .place .ensures .0) (c .place .ensures .1 (c .before .before .before .before .before .before .before .before .before .before .before .before .before .before .args .nine .now))
-          (less-is (c .before .before .before .sum .result) (part p) (few p) ∙ ap₂ _-ℤ_ (read (p .before .before)) (part-is p))),
-    )
+loop-again c = (omega arith, filled-more (omega arith) (c .before .before .before .before .before .before .before .loop .inv .1) (ap (λ k. getD (c .before .before .before .before .before .before .before .before .before .before .before .before .before .args .messages .now) k 0) (place-is (c .before))))
 
 same-length : tie.Need-same-length Inv-loop μ-loop
 same-length c = search needs
@@ -118,18 +101,16 @@ variable-nodes-spec =
     (tie.spec
     Inv-loop
     μ-loop
-    contributions-requires
-    outgoing-messages-requires
     loop-holds
     column-requires
     sum-requires
     shared-slice-read-place
     cast-place
     mul-place
-    array-copy-out-place
+    shared-slice-copy-out-place
     sub-place
     place-requires
-    array-read-outgoing
+    shared-slice-read-outgoing
     slice-write-outgoing
     add-e
     loop-less
