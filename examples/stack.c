@@ -1,0 +1,118 @@
+/* How much stack each call of the library takes, on a graph of 8,192 variables and checks and 32,768 entries: the call is made on a stack
+   that is painted before it, and what is no longer painted after it is counted. Prints a line for each call, with what frame.h says it
+   takes at most; the status is 1 where a call takes more. */
+#include "frame.h"
+
+#include <pthread.h>
+#include <stdio.h>
+#include <stdlib.h>
+#include <string.h>
+
+enum { VARIABLES = 8192, CHECKS = 8192, ENTRIES = 32768, STACK = 1 << 20, PAINT = 0xa5 };
+
+static uint8_t starts[2 * (CHECKS + 1)], columns[2 * ENTRIES], values[4 * VARIABLES], text[42 + 10 * ENTRIES];
+static uint8_t levels[VARIABLES], variable_messages[ENTRIES], check_messages[ENTRIES], sums[4 * VARIABLES], bits[VARIABLES];
+static uint8_t read_starts[sizeof starts], read_columns[sizeof columns];
+static size_t text_length;
+static uint64_t answer;
+
+static int rising(const void *a, const void *b) { return *(const int *)a - *(const int *)b; }
+
+static void put16(uint8_t *list, size_t i, unsigned x) {
+  list[2 * i] = (uint8_t)x;
+  list[2 * i + 1] = (uint8_t)(x >> 8);
+}
+
+/* Check i has the variables i, i + 1, i + 5 and i + 77, counted round the end; the values are +1 and, at every fifth variable, -1. */
+static void make_frame(void) {
+  const float one = 1;
+  for (int i = 0; i <= CHECKS; i++) put16(starts, (size_t)i, 4U * (unsigned)i);
+  for (int i = 0; i < CHECKS; i++) {
+    int row[4] = {i, (i + 1) % VARIABLES, (i + 5) % VARIABLES, (i + 77) % VARIABLES};
+    qsort(row, 4, sizeof row[0], rising);
+    for (int k = 0; k < 4; k++) put16(columns, 4 * (size_t)i + (size_t)k, (unsigned)row[k]);
+  }
+  for (int v = 0; v < VARIABLES; v++) {
+    float y = v % 5 == 0 ? -one : one;
+    memcpy(values + 4 * (size_t)v, &y, 4);
+  }
+}
+
+static void *nothing(void *none) { return none; }
+
+static void *decode(void *none) {
+  answer = frame_decode(VARIABLES, starts, sizeof starts, columns, sizeof columns, values, sizeof values, FRAME_PLAIN, 2, 0, 4, 4, 1, 1, 0,
+                        3, levels, sizeof levels, variable_messages, sizeof variable_messages, check_messages, sizeof check_messages, sums,
+                        sizeof sums, bits, sizeof bits);
+  return none;
+}
+
+static void *decode_place(void *none) {
+  answer = frame_decode_place(VARIABLES, starts, sizeof starts, columns, sizeof columns, values, sizeof values, FRAME_PLAIN, 2, 0, 4, 4, 1,
+                              1, 0, 3, sizeof levels, sizeof variable_messages, sizeof check_messages, sizeof sums, sizeof bits);
+  return none;
+}
+
+static void *write_sheet(void *none) {
+  answer = frame_write_sheet(VARIABLES, starts, sizeof starts, columns, sizeof columns, text, sizeof text);
+  return none;
+}
+
+static void *write_sheet_place(void *none) {
+  answer = frame_write_sheet_place(VARIABLES, starts, sizeof starts, columns, sizeof columns, sizeof text);
+  return none;
+}
+
+static void *read_sheet(void *none) {
+  answer = frame_read_sheet(text, text_length, read_starts, sizeof read_starts, read_columns, sizeof read_columns);
+  return none;
+}
+
+static void *read_sheet_place(void *none) {
+  answer = frame_read_sheet_place(text, text_length, sizeof read_starts, sizeof read_columns);
+  return none;
+}
+
+/* How many bytes of a painted stack a call leaves changed. */
+static size_t taken(void *(*call)(void *)) {
+  static _Alignas(4096) uint8_t stack[STACK];
+  pthread_attr_t attributes;
+  pthread_t thread;
+  memset(stack, PAINT, sizeof stack);
+  if (pthread_attr_init(&attributes) != 0 || pthread_attr_setstack(&attributes, stack, sizeof stack) != 0 ||
+      pthread_create(&thread, &attributes, call, NULL) != 0 || pthread_join(thread, NULL) != 0) {
+    fputs("stack: no thread could be run\n", stderr);
+    exit(2);
+  }
+  pthread_attr_destroy(&attributes);
+  size_t low = 0;
+  while (low < sizeof stack && stack[low] == PAINT) low++;
+  return sizeof stack - low;
+}
+
+static size_t own;
+static int too_many;
+
+static void measure(const char *name, void *(*call)(void *), size_t most) {
+  answer = 255;
+  size_t bytes = taken(call) - own;
+  if (frame_refusal(answer) != 0) {
+    fprintf(stderr, "stack: %s is refused with %u\n", name, frame_refusal(answer));
+    exit(2);
+  }
+  printf("%s %zu of %zu\n", name, bytes, most);
+  too_many |= most < bytes;
+}
+
+int main(void) {
+  make_frame();
+  own = taken(nothing);
+  measure("frame_decode", decode, FRAME_DECODE_STACK);
+  measure("frame_decode_place", decode_place, FRAME_DECODE_STACK);
+  measure("frame_write_sheet", write_sheet, FRAME_WRITE_SHEET_STACK);
+  text_length = frame_text_length(answer);
+  measure("frame_write_sheet_place", write_sheet_place, FRAME_WRITE_SHEET_STACK);
+  measure("frame_read_sheet", read_sheet, FRAME_READ_SHEET_STACK);
+  measure("frame_read_sheet_place", read_sheet_place, FRAME_READ_SHEET_STACK);
+  return too_many;
+}
