@@ -13,8 +13,9 @@
 extern "C" {
 #endif
 
-/* How many bytes of stack a call or its companion takes at most, beside its caller's. Measured on x86-64 on the largest graph: decode 35,592,
-   reading a sheet 98,760, writing one 16,776. No call recurses, and none takes more on another graph or where it refuses. */
+/* How many bytes of stack a call or its companion takes at most, beside its caller's. Measured on x86-64 on one of the largest graphs: decode
+   35,592, reading a sheet 98,760, writing one 16,776. The compiled calls have frames of fixed size and do not recurse, so that no input
+   takes much more. */
 enum { FRAME_DECODE_STACK = 40960, FRAME_READ_SHEET_STACK = 102400, FRAME_WRITE_SHEET_STACK = 20480 };
 
 /* The kind of scaling: a gain alone (the variance is not looked at), or a gain with a noise variance. */
