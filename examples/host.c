@@ -66,8 +66,7 @@ static void decode(const uint8_t *values, uint32_t limit)
                                    check_messages, sizeof check_messages, sums, sizeof sums, bits, sizeof bits);
     if (frame_refusal(answer) != 0) {
         refused(answer, frame_decode_place(variables, starts, starts_length, columns, columns_length, values, 4 * VARIABLES,
-                                           FRAME_PLAIN, 1.0f, 0.0f, 3, 3, 1, 1, 0, limit, sizeof levels, sizeof variable_messages,
-                                           sizeof check_messages, sizeof sums, sizeof bits));
+                                           frame_refusal(answer)));
         return;
     }
     printf("verdict iterations unsatisfied\n%s %u %u\nbits\n", frame_is_codeword(answer) ? "codeword" : "stopped",

@@ -48,8 +48,7 @@ static void *decode(void *none) {
 }
 
 static void *decode_place(void *none) {
-  answer = frame_decode_place(VARIABLES, starts, sizeof starts, columns, sizeof columns, values, sizeof values, FRAME_PLAIN, 2, 0, 4, 4, 1,
-                              1, 0, 3, sizeof levels, sizeof variable_messages, sizeof check_messages, sizeof sums, sizeof bits);
+  answer = frame_decode_place(VARIABLES, starts, sizeof starts, columns, sizeof columns, values, sizeof values, 12);
   return none;
 }
 

@@ -36,11 +36,10 @@ uint64_t frame_decode(size_t n, const uint8_t *starts, size_t starts_length, con
                       size_t levels_length, uint8_t *variable_messages, size_t variable_messages_length, uint8_t *check_messages,
                       size_t check_messages_length, uint8_t *sums, size_t sums_length, uint8_t *bits, size_t bits_length);
 
-/* The place of the refusal that frame_decode gives for the same input and lent memory of these lengths; 0 where it refuses nothing. */
+/* The place of the refusal that frame_decode gave for the same graph and values; `refusal` is its number, frame_refusal(answer). 0 where that
+   is 0. No place depends on the other numbers or on the lent memory. */
 size_t frame_decode_place(size_t n, const uint8_t *starts, size_t starts_length, const uint8_t *columns, size_t columns_length,
-                          const uint8_t *values, size_t values_length, uint32_t kind, float gain, float variance, uint32_t channel,
-                          uint32_t message, uint32_t phi_s, uint32_t phi_a, uint32_t phi_0, uint32_t limit, size_t levels_length,
-                          size_t variable_messages_length, size_t check_messages_length, size_t sums_length, size_t bits_length);
+                          const uint8_t *values, size_t values_length, uint32_t refusal);
 
 /* Reads a code sheet, the bytes `text`, into the two lists of its graph.
 

@@ -31,8 +31,15 @@ impl Decoder for Fast {
         }
     }
 
-    fn decode_place(&self, input: &DecodeInput, lent: &LentLengths) -> usize {
-        place(decode::prepare(input, lent))
+    fn decode_place(&self, graph: &GraphBytes, values: &[u8], number: u8) -> usize {
+        let (starts, columns) = graph::lists(graph);
+        let values = values.as_chunks().0;
+        match graph::check(graph.n, starts, columns) {
+            Err(refusal) => refusal.place,
+            Ok(_) if number == 13 => values.len(),
+            Ok(_) if number == 12 => decode::first_bad_value(values).unwrap_or(0),
+            Ok(_) => 0,
+        }
     }
 
     fn read_sheet(

@@ -47,6 +47,10 @@ enum Fault {
 
 struct Faulty(Fault);
 
+fn last_bad_value(values: &[f32]) -> usize {
+    values.iter().rposition(|value| !value.is_finite()).unwrap_or(0)
+}
+
 impl Faulty {
     fn has(&self, fault: Fault) -> bool {
         self.0 == fault
@@ -73,8 +77,7 @@ impl Faulty {
                 Err(Refusal { number: 6, place: 0 })
             }
             12 if self.has(Fault::LastBadValue) => {
-                let last = values.iter().rposition(|value| !value.is_finite());
-                Err(Refusal { number: 12, place: last.unwrap_or(0) })
+                Err(Refusal { number: 12, place: last_bad_value(&values) })
             }
             _ => Err(refusal),
         }
@@ -265,8 +268,17 @@ impl Decoder for Faulty {
         Answer::Accepted(Decoded { verdict, iterations, unsatisfied })
     }
 
-    fn decode_place(&self, input: &DecodeInput, lent: &LentLengths) -> usize {
-        self.outcome(input, lent).err().map_or(0, |refusal| refusal.place)
+    fn decode_place(&self, graph: &GraphBytes, values: &[u8], number: u8) -> usize {
+        let (starts, columns) = (u16_list(graph.starts), u16_list(graph.columns));
+        let graph = Graph { n: graph.n, starts: &starts, columns: &columns };
+        let values = f32_list(values);
+        match paper::check_graph(&graph) {
+            Err(refusal) => refusal.place,
+            Ok(()) if number == 13 => values.len(),
+            Ok(()) if number == 12 && self.has(Fault::LastBadValue) => last_bad_value(&values),
+            Ok(()) if number == 12 => values.iter().position(|v| !v.is_finite()).unwrap_or(0),
+            Ok(()) => 0,
+        }
     }
 
     fn read_sheet(

@@ -115,10 +115,10 @@ impl LentLengths {
 }
 
 /// The host's calls. Every `_place` is the companion that tells where a refusal is,
-/// and 0 where nothing is refused.
+/// and 0 where nothing is refused; decode's is asked with the number of the refusal.
 pub trait Decoder {
     fn decode(&self, input: &DecodeInput, lent: &mut Lent) -> Answer<Decoded>;
-    fn decode_place(&self, input: &DecodeInput, lent: &LentLengths) -> usize;
+    fn decode_place(&self, graph: &GraphBytes, values: &[u8], number: u8) -> usize;
 
     fn read_sheet(&self, text: &[u8], starts: &mut [u8], columns: &mut [u8])
     -> Answer<SheetCounts>;

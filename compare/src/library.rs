@@ -2,7 +2,7 @@
 //! slices are passed and answers packed. It is built when the archive is linked.
 
 use crate::interface::{
-    Answer, DecodeInput, Decoded, Decoder, GraphBytes, Lent, LentLengths, SheetCounts, Verdict,
+    Answer, DecodeInput, Decoded, Decoder, GraphBytes, Lent, SheetCounts, Verdict,
 };
 
 unsafe extern "C" {
@@ -42,20 +42,7 @@ unsafe extern "C" {
         columns_length: usize,
         values: *const u8,
         values_length: usize,
-        kind: u32,
-        gain: f32,
-        variance: f32,
-        channel: u32,
-        message: u32,
-        phi_s: u32,
-        phi_a: u32,
-        phi_0: u32,
-        limit: u32,
-        levels_length: usize,
-        variable_messages_length: usize,
-        check_messages_length: usize,
-        sums_length: usize,
-        bits_length: usize,
+        refusal: u32,
     ) -> usize;
     fn frame_read_sheet(
         text: *const u8,
@@ -140,8 +127,7 @@ impl Decoder for Library {
         })
     }
 
-    fn decode_place(&self, input: &DecodeInput, lent: &LentLengths) -> usize {
-        let (graph, values, settings) = (&input.graph, input.values, &input.settings);
+    fn decode_place(&self, graph: &GraphBytes, values: &[u8], number: u8) -> usize {
         // SAFETY: as above.
         unsafe {
             frame_decode_place(
@@ -152,20 +138,7 @@ impl Decoder for Library {
                 graph.columns.len(),
                 values.as_ptr(),
                 values.len(),
-                settings.kind,
-                settings.gain,
-                settings.variance,
-                settings.channel,
-                settings.message,
-                settings.phi_s,
-                settings.phi_a,
-                settings.phi_0,
-                settings.limit,
-                lent.levels,
-                lent.variable_messages,
-                lent.check_messages,
-                lent.sums,
-                lent.bits,
+                number.into(),
             )
         }
     }

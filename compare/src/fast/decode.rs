@@ -18,6 +18,10 @@ pub struct Frame<'a> {
     limit: usize,
 }
 
+pub fn first_bad_value(values: &[[u8; 4]]) -> Option<usize> {
+    values.iter().position(|&value| !f32::from_le_bytes(value).is_finite())
+}
+
 pub fn prepare<'a>(input: &DecodeInput<'a>, lent: &LentLengths) -> Result<Frame<'a>, Refusal> {
     let refuse = |number, place| Err(Refusal { number, place });
     let (starts, columns) = graph::lists(&input.graph);
@@ -44,7 +48,7 @@ pub fn prepare<'a>(input: &DecodeInput<'a>, lent: &LentLengths) -> Result<Frame<
     if !(factor > 0.0 && factor <= f32::MAX) {
         return refuse(11, 0);
     }
-    if let Some(index) = values.iter().position(|&value| !f32::from_le_bytes(value).is_finite()) {
+    if let Some(index) = first_bad_value(values) {
         return refuse(12, index);
     }
     let entries = columns.len();

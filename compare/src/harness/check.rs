@@ -63,7 +63,11 @@ fn check_decode(
     let input = DecodeInput { graph, values, settings: case.settings };
     let mut lent = Lent { levels, variable_messages, check_messages, sums, bits };
     let answer = decoder.decode(&input, &mut lent);
-    let place = decoder.decode_place(&input, &case.lent);
+    let number = match &answer {
+        Answer::Refused(number) => *number,
+        Answer::Accepted(_) | Answer::Malformed(_) => 0,
+    };
+    let place = decoder.decode_place(&input.graph, input.values, number);
 
     let numbers = expected.map(|outcome| Decoded {
         verdict: outcome.verdict,

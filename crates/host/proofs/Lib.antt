@@ -1,2 +1,3 @@
 pub mod Smallness
 pub mod SheetAnswers
+pub mod Places

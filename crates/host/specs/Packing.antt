@@ -2,15 +2,19 @@
 use mathlib.Core.Path.{_≡_}
 use mathlib.Core.Bool.{cond}
 use mathlib.Core.List.{List}
-use Prim.Native.Nat.{ℕ, _+_, _*_, _≤_}
+use Prim.Native.Nat.{ℕ, _+_, _*_, _/_, _≤_}
 use lib.Dec.{eqb}
 use lib.Ieee.{Float, binary32, ofBits}
+use lib.ListN.{length}
 use Rattle.rules.specs.Graphs.{Graph, limits}
-use Rattle.rules.specs.Refusals.{paper}
+use Rattle.rules.specs.Refusals.{paper, orElse}
 use Rattle.rules.specs.declared.Judged.{Judged}
 use Rattle.rules.specs.declared.Judged.the-variants as Judgement
+use Rattle.rules.specs.declared.Refusal.the-variants.{Length}
 use Rattle.rules.specs.declared.Verdict.{Verdict}
 use Rattle.rules.specs.declared.Verdict.the-variants.{Codeword, Stopped}
+use Rattle.graph.specs.Judging.{graphJudged}
+use Rattle.channel.specs.Values.{valuesJudged}
 use Rattle.channel.specs.declared.Parameters.{Parameters}
 use Rattle.channel.specs.declared.Scaling.{Scaling}
 use Rattle.channel.specs.declared.Scaling.the-variants.{Plain, Noise}
@@ -54,6 +58,14 @@ packDecoded (Answer.Ran r) = 256 * verdictOf (r .verdict) + 65536 * r .iteration
 abbrev pub placeOf : Judged → ℕ
 placeOf Judgement.Admitted = 0
 placeOf (Judgement.Refused r) = paper r .place
+
+-- The place of decode's refusal of that number: the graph's; of 13, how many values there are; of 12, the first that is infinite or NaN. All
+-- others have place 0.
+abbrev pub decodePlace : Graph → List ℕ → ℕ → ℕ
+decodePlace G values number =
+    placeOf
+    (orElse (graphJudged limits G)
+    (cond (eqb number 13) (Judgement.Refused (Length (length values / 4))) (cond (eqb number 12) (valuesJudged values) Judgement.Admitted)))
 
 -- What the entry for decode promises of its answer r and of the memory, M before and M′ after.
 pub record HostDecodes (F : Frame) (M M′ : Memory) (r : ℕ) : Type 0 where

@@ -1,13 +1,12 @@
 // The entries that C calls: each a call of the library, on numbers and byte slices.
 ghost use mathlib.Core.Path.{_≡_};
-ghost use Rattle.decoder.specs.Decoding.{decodeJudged};
-ghost use Rattle.decoder.specs.Frames.{frame, memory, room};
-ghost use Rattle.host.specs.Packing.{scalingOf, askedOf, verdictOf, packDecoded, placeOf, HostDecodes, Small};
-use channel::Checked;
+ghost use Rattle.words.specs.Roles.{graphOf};
+ghost use Rattle.decoder.specs.Frames.{frame, memory};
+ghost use Rattle.host.specs.Packing.{scalingOf, askedOf, verdictOf, packDecoded, placeOf, decodePlace, HostDecodes, Small};
 use channel::Parameters;
 use channel::Scaling;
 use decoder::Decoded;
-use decoder::Room;
+use rules::Judged;
 use rules::Verdict;
 
 pub mod sheets; // the entries for code sheets
@@ -49,6 +48,19 @@ fn pack_decoded(d: Decoded) -> u64
             256 * verdict_of(v)
                 + 65536 * (r.iterations as u64)
                 + 4294967296 * (r.unsatisfied as u64)
+        }
+    }
+}
+
+// The place of what is refused, 0 where nothing is.
+fn place_of(j: Judged) -> usize
+    ensures { λ r. ⌜ r ≡ placeOf j ⌝ }
+{
+    match j {
+        Judged::Admitted => 0,
+        Judged::Refused(r) => {
+            let k = r.numbered();
+            k.place
         }
     }
 }
@@ -102,53 +114,26 @@ pub extern "C" fn frame_decode(
     pack_decoded(d)
 }
 
-// The place of what `frame_decode` refuses for memory of these lengths, 0 where it refuses nothing.
+// The place of what `frame_decode` refuses of this graph and these values, where its number is `refusal`; 0 where that is 0.
 #[no_mangle]
 pub extern "C" fn frame_decode_place(
     n: usize,
     starts: &[u8],
     columns: &[u8],
     values: &[u8],
-    kind: u32,
-    gain: f32,
-    variance: f32,
-    channel: u32,
-    message: u32,
-    phi_s: u32,
-    phi_a: u32,
-    phi_0: u32,
-    limit: u32,
-    levels: usize,
-    variable_messages: usize,
-    check_messages: usize,
-    sums: usize,
-    bits: usize,
+    refusal: u32,
 ) -> usize
-    ensures { λ r. ⌜ r ≡ placeOf (decodeJudged (frame n (now (starts .entry)) (now (columns .entry)) (now (values .entry)) (askedOf (scalingOf kind gain variance) channel message «phi_s» «phi_a» «phi_0» limit)) (room levels «variable_messages» «check_messages» sums bits)) ⌝ }
+    ensures { λ r. ⌜ r ≡ decodePlace (graphOf n (now (starts .entry)) (now (columns .entry))) (now (values .entry)) refusal ⌝ }
 {
-    let scaling = scaling_of(kind, gain, variance);
-    let asked = Parameters {
-        scaling,
-        channel,
-        message,
-        phi_s,
-        phi_a,
-        phi_0,
-        limit,
-    };
-    let room = Room {
-        levels,
-        variable_messages,
-        check_messages,
-        sums,
-        bits,
-    };
-    let c = decoder::accept(n, starts, columns, values, asked, room);
-    match c {
-        Checked::Refused(r) => {
-            let k = r.numbered();
-            k.place
-        }
-        Checked::Good(_) => 0,
+    let j = graph::check(n, starts, columns);
+    if let Judged::Refused(r) = j {
+        return place_of(Judged::Refused(r));
     }
+    if refusal == 13 {
+        return values.len() / 4;
+    }
+    if refusal == 12 {
+        return place_of(channel::check_values(values));
+    }
+    0
 }

@@ -6,22 +6,8 @@ ghost use Rattle.words.specs.Roles.{graphOf};
 ghost use Rattle.sheet.specs.Reading.{sheetRead, readJudged};
 ghost use Rattle.sheet_writer.specs.Writing.{writeJudged};
 ghost use Rattle.host.specs.Packing.{placeOf, packRead, packWritten, HostReads, HostWrites, SmallRead, SmallWritten};
-use rules::Judged;
 use sheet::Sheet;
 use sheet_writer::Written;
-
-// The place of what is refused, 0 where nothing is.
-fn place_of(j: Judged) -> usize
-    ensures { λ r. ⌜ r ≡ placeOf j ⌝ }
-{
-    match j {
-        Judged::Admitted => 0,
-        Judged::Refused(r) => {
-            let k = r.numbered();
-            k.place
-        }
-    }
-}
 
 // The answer of reading a sheet as one number.
 fn pack_read(s: Sheet) -> u64
@@ -70,7 +56,7 @@ pub extern "C" fn frame_read_sheet_place(text: &[u8], starts: usize, columns: us
     ensures { λ r. ⌜ r ≡ placeOf (readJudged (sheetRead limits (now (text .entry)) starts columns)) ⌝ }
 {
     let j = sheet::judge_read(text, starts, columns);
-    place_of(j)
+    crate::place_of(j)
 }
 
 // Writes the sheet of a graph.
@@ -93,5 +79,5 @@ pub extern "C" fn frame_write_sheet_place(
     ensures { λ r. ⌜ r ≡ placeOf (writeJudged (graphOf n (now (starts .entry)) (now (columns .entry))) text) ⌝ }
 {
     let j = sheet_writer::judge_write(n, starts, columns, text);
-    place_of(j)
+    crate::place_of(j)
 }

@@ -65,6 +65,16 @@ pub each-all : (j : ℕ → Judged) (n : ℕ) → ((k : ℕ) → k < n → j k �
 each-all j zero h = each-none j
 each-all j (suc n) h = ap (each j) (sym (add-one n)) ∙ each-more j n (each-all j n (λ k l. h k (omega arith))) (h n (omega arith))
 
+-- what holds of every refusal that some index gives holds of the first
+pub each-from : (P : Refusal → Type 0) (j : ℕ → Judged) (n : ℕ) → ((k : ℕ) (r : Refusal) → j k ≡ Refused r → P r)
+    → (r : Refusal) → each j n ≡ Refused r → P r
+each-from P j zero h r e = absurd (refused-not (sym e ∙ each-none j))
+each-from P j (suc n) h r e = go (each j n) refl (sym (each-next j n) ∙ ap (each j) (add-one n) ∙ e) (each-from P j n h r)
+  where
+    go : (a : Judged) → each j n ≡ a → orElse (each j n) (j n) ≡ Refused r → (each j n ≡ Refused r → P r) → P r
+    go Admitted q d below = h n r (sym (ap (λ x. orElse x (j n)) q) ∙ d)
+    go (Refused s) q d below = below (q ∙ sym (ap (λ x. orElse x (j n)) q) ∙ d)
+
 -- ---- a loop over tests, each with its refusal
 
 -- none of the tests below k fails

@@ -1,63 +1,51 @@
 use mathlib.Core.Path.{sym, ap, _∙_}
-use Rattle.channel.specs.declared.Scaling.{Scaling}
-use Rattle.channel.specs.declared.Parameters.{Parameters}
-use Rattle.channel.specs.Settings.{settings}
-use Rattle.decoder.specs.declared.Room.{Room}
-use Rattle.decoder.specs.Decoding.{Frame, decodeJudged}
-use Rattle.decoder.specs.Frames.{frame, room}
-use Rattle.decoder.proofs.Accepting.{checked-refused, checked-good}
-use Rattle.host.specs.Packing.{askedOf, placeOf}
+use Rattle.host.specs.Packing.{placeOf}
 use borrow.Author.Needs.{needs}
+use borrow.Author.Tests.{ne-eqb}
 use Rattle.host.proofs.frame_decode_place.Statement.{statement}
 use Rattle.host.proofs.frame_decode_place.Tie as tie
 
-abbrev asked : tie.Start → Scaling → Parameters
-asked s scaling = let a = s .args in askedOf scaling (a .channel) (a .message) (a .phi-s) (a .phi-a) (a .phi-0) (a .limit)
+check-requires : tie.Need-check-requires
+check-requires c κs = search needs
 
-abbrev F : tie.Start → Scaling → Frame
-F s scaling = frame (s .args .n) (s .args .starts .now) (s .args .columns .now) (s .args .values .now) (asked s scaling)
+enum-known-j : tie.Need-enum-known-j
+enum-known-j c = search needs
 
-abbrev m : tie.Start → Room
-m s = room (s .args .levels) (s .args .variable-messages) (s .args .check-messages) (s .args .sums) (s .args .bits)
+place-of-requires : tie.Need-place-of-requires
+place-of-requires c κs = search needs
 
-scaling-of-requires : tie.Need-scaling-of-requires
-scaling-of-requires c κs = search needs
-
-accept-requires : tie.Need-accept-requires
-accept-requires c κs = search needs
-
-enum-known-c : tie.Need-enum-known-c
-enum-known-c c = search needs
-
-numbered-requires : tie.Need-numbered-requires
-numbered-requires c κs = search needs
+returns : tie.Need-returns
+returns c = c .place-of .ensures ∙ rw (sym (c .before .before .before .before .check .ensures) ∙ c .before .before .j .given .1)
 
 enum-told : tie.Need-enum-told
 enum-told c = search needs
 
-returns : tie.Need-returns
-returns c =
-    let s = c .before .before .before .before .before .before .before .before .before in
-    let x = c .before .before .before .before .before .scaling-of .result in
-    ap (λ k. k .place) (c .numbered .ensures)
-    ∙ sym (ap placeOf (checked-refused (decodeJudged (F s x) (m s)) (settings (asked s x)) (sym (c .before .before .before .before .accept .ensures) ∙ c .before .before .c .given .1)))
-    ∙ ap (λ z. placeOf (decodeJudged (F s z) (m s))) (c .before .before .before .before .before .scaling-of .ensures)
-
 returns-2 : tie.Need-returns-2
-returns-2 c =
-    let s = c .before .before .before .before .before .before .before in
-    let x = c .before .before .before .scaling-of .result in
-    sym (ap placeOf (checked-good (decodeJudged (F s x) (m s)) (settings (asked s x)) (sym (c .before .before .accept .ensures) ∙ c .enum-told .given .1)))
-    ∙ ap (λ z. placeOf (decodeJudged (F s z) (m s))) (c .before .before .before .scaling-of .ensures)
+returns-2 c = rw (sym (c .before .before .before .check .ensures) ∙ c .before .enum-told .given .1, c .if1 .taken)
+
+check-values-requires : tie.Need-check-values-requires
+check-values-requires c κs = search needs
+
+place-of-requires-2 : tie.Need-place-of-requires-2
+place-of-requires-2 c κs = search needs
+
+returns-3 : tie.Need-returns-3
+returns-3 c = c .place-of2 .ensures ∙ ap placeOf (c .before .check-values .ensures) ∙ rw (sym (c .before .before .before .before .before .before .check .ensures) ∙ c .before .before .before .before .enum-told .given .1, c .before .before .if2 .taken)
+
+returns-4 : tie.Need-returns-4
+returns-4 c = rw (sym (c .before .before .before .before .check .ensures) ∙ c .before .before .enum-told .given .1, ne-eqb _ _ (c .before .if1 .left), ne-eqb _ _ (c .if2 .left))
 
 pub frame-decode-place-spec : {M : Type 1} → statement M
 frame-decode-place-spec =
     tie.close
     (tie.spec
-    scaling-of-requires
-    accept-requires
-    enum-known-c
-    numbered-requires
-    enum-told
+    check-requires
+    enum-known-j
+    place-of-requires
     returns
-    returns-2)
+    enum-told
+    returns-2
+    check-values-requires
+    place-of-requires-2
+    returns-3
+    returns-4)

@@ -1,6 +1,6 @@
 use borrow.Author.Needs.{needs}
-use Rattle.host.proofs.sheets.place_of.Statement.{statement}
-use Rattle.host.proofs.sheets.place_of.Tie as tie
+use Rattle.host.proofs.place_of.Statement.{statement}
+use Rattle.host.proofs.place_of.Tie as tie
 
 enum-told : tie.Need-enum-told
 enum-told c = search needs
