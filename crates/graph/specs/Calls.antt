@@ -5,19 +5,23 @@ use mathlib.Core.List.{List, []}
 use Prim.Native.Nat.{ℕ, _*_}
 use lib.Dec.{eqb, leb, ltb}
 use lib.ListN.{length, getD, take, drop}
-use Rattle.rules.specs.Graphs.{Graph, Limits, limits, AdmittedWithin, checkDegree, unsatisfied}
+use Rattle.rules.specs.Graphs.{Graph, Limits, Wider, limits, AdmittedWithin, checkDegree, unsatisfied}
 use Rattle.rules.specs.Refusals.{unless, orElse, each}
 use Rattle.rules.specs.declared.Judged.{Judged}
 use Rattle.rules.specs.declared.Judged.the-variants as Judgement
 use Rattle.rules.specs.declared.Refusal.the-variants.{Range, Length, Bit}
 use Rattle.words.specs.Roles.{bitOfByte}
-use Rattle.graph.specs.Judging.{graphJudged}
+use Rattle.graph.specs.Judging.{countsJudged, graphJudged}
 use Rattle.graph.specs.declared.OddChecks.{OddChecks}
 use Rattle.graph.specs.declared.OddChecks.the-variants as Answer
 
 -- Under any limits a graph is refused by none of the five exactly when it is admitted.
 abbrev pub JudgedRightly : Type 0
 JudgedRightly = (L : Limits) (G : Graph) → (graphJudged L G ≡ Judgement.Admitted) ↔ AdmittedWithin L G
+
+-- A graph whose counts are within L is judged alike under wider limits.
+abbrev pub JudgedAlike : Type 0
+JudgedAlike = (L M : Limits) → Wider L M → (G : Graph) → countsJudged L G ≡ Judgement.Admitted → graphJudged M G ≡ graphJudged L G
 
 -- 'Row of a check: the graph's five; 3, a check number not below m (that number).'
 unfoldable pub rowJudgement : Graph → ℕ → Judged

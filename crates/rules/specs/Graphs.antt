@@ -62,6 +62,14 @@ pub record AdmittedWithin (L : Limits) (G : Graph) : Type 0 where
   pub checkDegrees : (i : ℕ) → i < G .checks → (G .start i + leastCheckDegree ≤ G .start (suc i)) × (G .start (suc i) ≤ G .start i + L .checkDegree)
   pub variableDegrees : (v : ℕ) → v < G .variables → (leastVariableDegree ≤ variableDegree G v) × (variableDegree G v ≤ L .variableDegree)
 
+-- Limits M allow larger counts than L, and the same degrees.
+pub record Wider (L M : Limits) : Type 0 where
+  pub variables : L .variables ≤ M .variables
+  pub checks : L .checks ≤ M .checks
+  pub entries : L .entries ≤ M .entries
+  pub checkDegree : M .checkDegree ≡ L .checkDegree
+  pub variableDegree : M .variableDegree ≡ L .variableDegree
+
 -- Admitted by this document.
 abbrev pub Admitted : Graph → Type 0
 Admitted G = AdmittedWithin limits G

@@ -3,3 +3,4 @@ pub mod Passes
 pub mod Sheets
 pub mod Entries
 pub mod Graphs
+pub mod Wider
