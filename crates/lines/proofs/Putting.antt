@@ -1,6 +1,6 @@
 -- Texts that are put one after the other, and how long the text of a number is.
 use mathlib.Core.Path.{_≡_, refl, sym, ap, _∙_}
-use mathlib.Core.List.{List, [], _∷_, _++_}
+use mathlib.Core.List.{List, [], _∷_, _++_, append-assoc}
 use Prim.Native.Nat.{ℕ, zero, suc, _+_, _*_, _/_, _%_, _^_, _≤_, _<_}
 use native.Mathlib.Decide.{decLt}
 use native.Mathlib.Nat.{zero-add, add-zero, add-suc, suc-add, pow-zero, pow-suc}
@@ -9,7 +9,7 @@ use native.Mathlib.Omega.{arith}
 use lib.ListN.{length, take, drop, getD, set, length-append}
 use lib.Seq.{sets, sets-eq, length-sets, take-suc, take-all}
 use Rattle.lines.specs.Numbers.{decimal}
-use Rattle.lines.specs.Putting.{Put}
+use Rattle.lines.specs.Putting.{Put, lastThree}
 use Rattle.lines.proofs.Numbers.{decimal-digit, decimal-more}
 
 -- ---- lengths
@@ -47,6 +47,10 @@ decimal-long (suc f) k h =
     let e : 10 ^ suc f ≡ 10 ^ f * 10 = pow-suc 10 f in
     let q : 10 ^ f ≤ k / 10 = omega arith in
     omega (arith, more-digits k (omega (arith, pow-pos f)), decimal-long f (k / 10) q)
+
+-- a number from 10 ^ f on and below the next power of ten
+pub digits-are : (f k : ℕ) → 10 ^ f ≤ k → k < 10 ^ suc f → suc f ≡ length (decimal k)
+digits-are f k h l = omega (arith, decimal-long f k h, decimal-short f k l)
 
 -- a number of 64 bits has at most 20 digits
 pub word-short : (k : ℕ) → k < 18446744073709551616 → length (decimal k) ≤ 20
@@ -89,6 +93,32 @@ put-only {k = k} h p =
 
 pub put-last : {old mid now : List ℕ} {at i next k : ℕ} → 10 ≤ k → Put (decimal (k / 10)) old mid at i → Put ((48 + k % 10) ∷ []) mid now i next → Put (decimal k) old now at next
 put-last {k = k} h p q = put-same (put-then p q) (sym (decimal-more k h))
+
+-- three digits alone, and the last three after the others
+three-is : (k : ℕ) → 100 ≤ k → k < 1000 → lastThree k ≡ decimal k
+three-is k h l =
+    let d : k / 10 / 10 % 10 ≡ k / 10 / 10 = omega arith in
+    sym (decimal-more k (omega arith) ∙ ap (λ x. x ++ ((48 + k % 10) ∷ [])) (decimal-more (k / 10) (omega arith) ∙ ap (λ x. x ++ ((48 + k / 10 % 10) ∷ [])) (decimal-digit (k / 10 / 10) (omega arith)))
+    ∙ ap (λ x. (48 + x) ∷ (48 + k / 10 % 10) ∷ (48 + k % 10) ∷ []) (sym d))
+
+thousands-are : (k : ℕ) → 1000 ≤ k → decimal (k / 10 / 10 / 10) ++ lastThree k ≡ decimal k
+thousands-are k h =
+    let high = decimal (k / 10 / 10 / 10) in
+    let a = 48 + k / 10 / 10 % 10 in
+    let b = 48 + k / 10 % 10 in
+    let c = 48 + k % 10 in
+    sym (decimal-more k (omega arith)
+    ∙ ap (λ x. x ++ (c ∷ [])) (decimal-more (k / 10) (omega arith) ∙ ap (λ x. x ++ (b ∷ [])) (decimal-more (k / 10 / 10) (omega arith)))
+    ∙ append-assoc (high ++ (a ∷ [])) (b ∷ []) (c ∷ []) ∙ append-assoc high (a ∷ []) (b ∷ c ∷ []))
+
+pub put-three : {old now : List ℕ} {at next k : ℕ} → 100 ≤ k → k < 1000 → Put (lastThree k) old now at next → Put (decimal k) old now at next
+put-three {k = k} h l p = put-same p (three-is k h l)
+
+pub put-thousands : {old mid now : List ℕ} {at i next k : ℕ} → 1000 ≤ k → Put (decimal (k / 10 / 10 / 10)) old mid at i → Put (lastThree k) mid now i next → Put (decimal k) old now at next
+put-thousands {k = k} h p q = put-same (put-then p q) (thousands-are k h)
+
+pub thousands-long : (k : ℕ) → 1000 ≤ k → length (decimal k) ≡ length (decimal (k / 10 / 10 / 10)) + 3
+thousands-long k h = ap length (sym (thousands-are k h)) ∙ length-append (decimal (k / 10 / 10 / 10)) (lastThree k)
 
 -- the first k bytes of a text, and one more
 pub put-taken : (x : List ℕ) (k : ℕ) {old now : List ℕ} {at : ℕ} → k < length x → Put (take k x) old now at (at + k)

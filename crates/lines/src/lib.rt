@@ -6,7 +6,7 @@ ghost use lib.ListN.{length, drop};
 ghost use Rattle.lines.specs.Numbers.{number, more, frontDigit, decimal};
 ghost use Rattle.lines.specs.Lines.{field};
 ghost use Rattle.lines.specs.Places.{cap, NumberAt, LineAt, FixedAt};
-ghost use Rattle.lines.specs.Putting.{Put};
+ghost use Rattle.lines.specs.Putting.{Put, lastThree};
 
 // A number and the place after it. A number above every limit is given as CAP.
 pub enum Number {
@@ -227,31 +227,43 @@ fn put_long(text: &mut [u8], at: usize, k: usize) -> usize
     put_digit(text, last, k)
 }
 
-// Puts the digits of a number.
-pub fn put_number(text: &mut [u8], at: usize, k: usize) -> usize
-    requires { ⌜ at + length (decimal k) ≤ length (now text) ⌝ }
+// Puts the last three digits of a number.
+fn put_three(text: &mut [u8], at: usize, k: usize) -> usize
+    requires { ⌜ at + 3 ≤ length (now text) ⌝ }
+    ensures { λ r. ⌜ Put (lastThree k) (now (text .entry)) (now (text .exit)) at r ⌝ }
+{
+    let tens = k / 10;
+    let i = put_digit(text, at, tens / 10);
+    let j = put_digit(text, i, tens);
+    put_digit(text, j, k)
+}
+
+// Puts the digits of a number below 1,000.
+fn put_short(text: &mut [u8], at: usize, k: usize) -> usize
+    requires { ⌜ (k < 1000) × (at + length (decimal k) ≤ length (now text)) ⌝ }
     ensures { λ r. ⌜ Put (decimal k) (now (text .entry)) (now (text .exit)) at r ⌝ }
 {
     if k < 10 {
         return put_digit(text, at, k);
     }
-    let tens = k / 10;
     if k < 100 {
-        let i = put_digit(text, at, tens);
+        let i = put_digit(text, at, k / 10);
         return put_digit(text, i, k);
     }
-    let hundreds = tens / 10;
+    put_three(text, at, k)
+}
+
+// Puts the digits of a number.
+pub fn put_number(text: &mut [u8], at: usize, k: usize) -> usize
+    requires { ⌜ at + length (decimal k) ≤ length (now text) ⌝ }
+    ensures { λ r. ⌜ Put (decimal k) (now (text .entry)) (now (text .exit)) at r ⌝ }
+{
     if k < 1000 {
-        let i = put_digit(text, at, hundreds);
-        let j = put_digit(text, i, tens);
-        return put_digit(text, j, k);
+        return put_short(text, at, k);
     }
-    let thousands = hundreds / 10;
-    if k < 10000 {
-        let h = put_digit(text, at, thousands);
-        let i = put_digit(text, h, hundreds);
-        let j = put_digit(text, i, tens);
-        return put_digit(text, j, k);
+    if k < 1000000 {
+        let i = put_short(text, at, k / 10 / 10 / 10);
+        return put_three(text, i, k);
     }
     put_long(text, at, k)
 }

@@ -1,34 +1,43 @@
-use mathlib.Core.Path.{_≡_}
-use Prim.Native.Nat.{_+_, _≤_}
+use mathlib.Core.Path.{sym}
 use native.Mathlib.Omega.{arith}
+use Rattle.lines.proofs.Putting.{one-digit, digits-are}
 use borrow.Author.Needs.{needs}
-use lib.ListN.{length}
-use Rattle.lines.specs.Numbers.{decimal}
-use Rattle.lines.proofs.Putting.{one-digit, more-digits, word-short}
 use Rattle.sheet_writer.proofs.digits.Statement.{statement}
 use Rattle.sheet_writer.proofs.digits.Tie as tie
 
-abbrev Inv-loop : tie.InvT-loop
-Inv-loop k left₀ count₀ left count = (count + left ≤ k + 1) × (length (decimal k) + 1 ≡ count + length (decimal left))
+returns : tie.Need-returns
+returns c = (sym (one-digit (c .before .args .k) (c .if1 .taken)), omega arith)
 
-abbrev μ-loop : tie.MeasureT-loop
-μ-loop k left₀ count₀ left count = left
+returns-2 : tie.Need-returns-2
+returns-2 c = (digits-are 1 (c .before .before .args .k) (omega arith) (omega arith), omega arith)
 
-loop-holds : tie.Need-loop-holds Inv-loop μ-loop
-loop-holds c = search needs
+returns-3 : tie.Need-returns-3
+returns-3 c = (digits-are 2 (c .before .before .before .args .k) (omega arith) (omega arith), omega arith)
 
-add-count : tie.Need-add-count Inv-loop μ-loop
-add-count c = search needs
+returns-4 : tie.Need-returns-4
+returns-4 c = (digits-are 3 (c .before .before .before .before .args .k) (omega arith) (omega arith), omega arith)
 
-loop-less : tie.Need-loop-less Inv-loop μ-loop
-loop-less c = search needs
+returns-5 : tie.Need-returns-5
+returns-5 c = (digits-are 4 (c .before .before .before .before .before .args .k) (omega arith) (omega arith), omega arith)
 
-loop-again : tie.Need-loop-again Inv-loop μ-loop
-loop-again c = omega (arith, more-digits (c .before .loop .left) (omega arith))
+returns-6 : tie.Need-returns-6
+returns-6 c = (digits-are 5 (c .before .before .before .before .before .before .args .k) (omega arith) (omega arith), omega arith)
 
-returns : tie.Need-returns Inv-loop μ-loop
-returns c = omega (arith, one-digit (c .before .loop .left) (omega arith), word-short (c .before .before .args .k) (omega arith))
+count-digits-requires : tie.Need-count-digits-requires
+count-digits-requires c κs = search needs
+
+returns-7 : tie.Need-returns-7
+returns-7 c = search needs
 
 pub digits-spec : {M : Type 1} → statement M
 digits-spec =
-    tie.close (tie.spec Inv-loop μ-loop loop-holds add-count loop-less loop-again returns)
+    tie.close
+    (tie.spec
+    returns
+    returns-2
+    returns-3
+    returns-4
+    returns-5
+    returns-6
+    count-digits-requires
+    returns-7)
