@@ -28,6 +28,13 @@ abbrev pub NumberAt : (List ℕ → Front ℕ) → List ℕ → ℕ → Number �
 NumberAt form s at Numbers.Other = form (drop at s) ≡ other
 NumberAt form s at (Numbers.Value v next) = NumberRead (form (drop at s)) s at v next
 
+-- Something of this form is known to stand at place `at`, with a number that is not above every limit.
+pub record Known (form : List ℕ → Front ℕ) (s : List ℕ) (at : ℕ) : Type 0 where
+  pub number : ℕ
+  pub rest : List ℕ
+  pub reads : form (drop at s) ≡ value number rest
+  pub small : number < cap
+
 -- A line of two numbers was read.
 pub record LineRead (x : Front Pair) (s : List ℕ) (at a b next : ℕ) : Type 0 where
   pub pair : Pair
@@ -40,6 +47,13 @@ pub record LineRead (x : Front Pair) (s : List ℕ) (at a b next : ℕ) : Type 0
 abbrev pub LineAt : List ℕ → ℕ → Line → Type 0
 LineAt s at Lines.Other = line (drop at s) ≡ other
 LineAt s at (Lines.Two a b next) = LineRead (line (drop at s)) s at a b next
+
+pub record KnownLine (s : List ℕ) (at : ℕ) : Type 0 where
+  pub pair : Pair
+  pub rest : List ℕ
+  pub reads : line (drop at s) ≡ value pair rest
+  pub first : pair .first < cap
+  pub second : pair .second < cap
 
 -- A fixed text was read.
 pub record FixedRead (x : Front Unit) (s : List ℕ) (next : ℕ) : Type 0 where

@@ -4,8 +4,8 @@ ghost use mathlib.Core.List.{[], _∷_, _++_};
 ghost use Prim.Native.Nat.{_+_, _-_, _*_, _%_, _<_, _≤_, min};
 ghost use lib.ListN.{length, drop};
 ghost use Rattle.lines.specs.Numbers.{number, more, frontDigit, decimal};
-ghost use Rattle.lines.specs.Lines.{field};
-ghost use Rattle.lines.specs.Places.{cap, NumberAt, LineAt, FixedAt};
+ghost use Rattle.lines.specs.Lines.{field, line};
+ghost use Rattle.lines.specs.Places.{cap, NumberRead, NumberAt, Known, LineRead, LineAt, KnownLine, FixedAt};
 ghost use Rattle.lines.specs.Putting.{Put, lastThree};
 
 // A number and the place after it. A number above every limit is given as CAP.
@@ -168,6 +168,50 @@ pub fn line_at(s: &[u8], at: usize) -> Line
         first,
         second,
         next,
+    }
+}
+
+// A number and the place after it, where one is known to stand.
+pub struct Found {
+    pub value: usize,
+    pub next: usize,
+}
+
+// The two numbers of a line and the place after it, where one is known to stand.
+pub struct FoundLine {
+    pub first: usize,
+    pub second: usize,
+    pub next: usize,
+}
+
+// The number at a place with the byte x after it, in a text that was judged before: its bytes are not judged again.
+pub fn known_field_at(s: &[u8], at: usize, x: u8) -> Found
+    requires { ⌜ (x < 48) × Known (field x) (now s) at ⌝ }
+    ensures { λ r. ⌜ NumberRead (field x (drop at (now (s .entry)))) (now (s .entry)) at (r .value) (r .next) ⌝ }
+{
+    let mut v: usize = 0;
+    let mut i = at;
+    while s[i] != x {
+        v = v * 10 + (s[i] - 48) as usize;
+        i += 1;
+    }
+    Found {
+        value: v,
+        next: i + 1,
+    }
+}
+
+// The line of two numbers at a place, in a text that was judged before.
+pub fn known_line_at(s: &[u8], at: usize) -> FoundLine
+    requires { ⌜ KnownLine (now s) at ⌝ }
+    ensures { λ r. ⌜ LineRead (line (drop at (now (s .entry)))) (now (s .entry)) at (r .first) (r .second) (r .next) ⌝ }
+{
+    let a = known_field_at(s, at, b' ');
+    let b = known_field_at(s, a.next, b'\n');
+    FoundLine {
+        first: a.value,
+        second: b.value,
+        next: b.next,
     }
 }
 
