@@ -1,6 +1,7 @@
 -- The refusals of decode, in their order.
 use mathlib.Core.Path.{_≡_, refl, sym, ap, _∙_, subst}
 use mathlib.Core.Bool.{true, false}
+use mathlib.Core.List.{List}
 use Prim.Native.Nat.{ℕ, _*_, _/_, _≤_}
 use native.Mathlib.Omega.{arith}
 use borrow.Author.Tests.{eq-eqb, ne-eqb, eqb-true, leb-true}
@@ -14,8 +15,11 @@ use Rattle.rules.specs.declared.Refusal.{Refusal}
 use Rattle.rules.specs.declared.Refusal.the-variants.{Length, Buffer}
 use Rattle.rules.proofs.Judging.{and-left, and-right, orElse-left, orElse-right, unless-true}
 use Rattle.rules.specs.declared.Report.{Report}
-use Rattle.graph.specs.Judging.{graphJudged}
+use Rattle.graph.specs.Judging.{graphJudged, graphJudgedIn}
+use Rattle.graph.specs.Degrees as Lent
 use Rattle.graph.proofs.Meaning.{graph-admitted}
+use Rattle.graph.proofs.Lending as Lending
+use Rattle.graph.proofs.Lending.{lent-admitted, lent-counted}
 use Rattle.channel.specs.declared.Settings.{Settings}
 use Rattle.channel.specs.declared.Checked.{Checked}
 use Rattle.channel.specs.declared.Checked.the-variants as Checks
@@ -23,46 +27,61 @@ use Rattle.channel.specs.Settings.{settings, settingsJudged, checked, settingsO
 use Rattle.channel.proofs.Accepted.{good-settings}
 use Rattle.channel.specs.Values.{valuesJudged}
 use Rattle.decoder.specs.declared.Room.{Room}
-use Rattle.decoder.specs.Decoding.{Frame, Memory, roomOf, graph, enough, frameJudged, decodeJudged, decoded, memoryAfter, Decodes}
-use Rattle.decoder.specs.Steps.{Ready}
+use Rattle.decoder.specs.Decoding.{Frame, Memory, roomOf, graph, enough, askedJudged, frameJudged, decodeJudged, frameJudgedIn, decodeJudgedIn, decoded, memoryAfter, Decodes, Accepts, LentAlike}
+use Rattle.decoder.specs.Steps.{Degrees, Ready}
 use Rattle.decoder.specs.declared.Decoded.the-variants as Answers
-use Rattle.decoder.proofs.Beginning.{RunsInto}
+use Rattle.decoder.proofs.Beginning.{RunsInto, counted-degrees}
 
--- all but the memory
+-- what is judged after the graph
 module _ (F : Frame) where
-  pub graph-refused : {r : Refusal} → graphJudged limits (graph F) ≡ Refused r → frameJudged F ≡ Refused r
+  pub length-refused : (length (F .values) / 4 ≡ F .variables → ⊥) → askedJudged F ≡ Refused (Length (length (F .values) / 4))
+  length-refused h = rw (ne-eqb (length (F .values) / 4) (F .variables) h)
+
+  module _ (l : length (F .values) / 4 ≡ F .variables) where
+    pub settings-refused : {r : Refusal} → settingsJudged (F .asked) ≡ Refused r → askedJudged F ≡ Refused r
+    settings-refused c = rw (eq-eqb (length (F .values) / 4) (F .variables) l, c)
+
+    -- what is left is the values
+    pub values-judged : {j : Judged} → settingsJudged (F .asked) ≡ Admitted → valuesJudged (F .values) ≡ j → askedJudged F ≡ j
+    values-judged c d = rw (eq-eqb (length (F .values) / 4) (F .variables) l, c, d)
+
+  pub frame-asked : {j : Judged} → graphJudged limits (graph F) ≡ Admitted → askedJudged F ≡ j → frameJudged F ≡ j
   unfolding frameJudged
-  graph-refused a = rw a
+  frame-asked a h = rw (a, h)
 
-  module _ (a : graphJudged limits (graph F) ≡ Admitted) where
-    pub length-refused : (length (F .values) / 4 ≡ F .variables → ⊥) → frameJudged F ≡ Refused (Length (length (F .values) / 4))
-    unfolding frameJudged
-    length-refused h = rw (a, ne-eqb (length (F .values) / 4) (F .variables) h)
+-- the same where a list of d bytes is lent for the degrees, up to the memory
+module _ (F : Frame) (d : ℕ) where
+  pub frame-asked-in : {j : Judged} → graphJudgedIn limits (graph F) d ≡ Admitted → askedJudged F ≡ j → frameJudgedIn F d ≡ j
+  unfolding frameJudgedIn
+  frame-asked-in a h = rw (a, h)
 
-    module _ (l : length (F .values) / 4 ≡ F .variables) where
-      counted : unless (eqb (length (F .values) / 4) (F .variables)) (Length (length (F .values) / 4)) ≡ Admitted
-      counted = rw (eq-eqb (length (F .values) / 4) (F .variables) l)
+  module _ (m : Room) where
+    pub graph-refused : {r : Refusal} → graphJudgedIn limits (graph F) d ≡ Refused r → decodeJudgedIn F d m ≡ Refused r
+    unfolding frameJudgedIn decodeJudgedIn
+    graph-refused a = rw a
 
-      pub settings-refused : {r : Refusal} → settingsJudged (F .asked) ≡ Refused r → frameJudged F ≡ Refused r
-      unfolding frameJudged
-      settings-refused c = rw (a, counted, c)
+    pub frame-refused : {r : Refusal} → frameJudgedIn F d ≡ Refused r → decodeJudgedIn F d m ≡ Refused r
+    unfolding decodeJudgedIn
+    frame-refused a = rw a
 
-      -- what is left is the values
-      pub values-judged : {j : Judged} → settingsJudged (F .asked) ≡ Admitted → valuesJudged (F .values) ≡ j → frameJudged F ≡ j
-      unfolding frameJudged
-      values-judged c d = rw (a, counted, c, d)
+    module _ (a : frameJudgedIn F d ≡ Admitted) where
+      pub memory-refused : enough (F .variables) (graph F .entries) m ≡ false → decodeJudgedIn F d m ≡ Refused Buffer
+      unfolding decodeJudgedIn
+      memory-refused b = rw (a, b)
 
-pub frame-refused : (F : Frame) (m : Room) {r : Refusal} → frameJudged F ≡ Refused r → decodeJudged F m ≡ Refused r
-unfolding decodeJudged
-frame-refused F m a = rw a
+      pub all-admitted : enough (F .variables) (graph F .entries) m ≡ true → decodeJudgedIn F d m ≡ Admitted
+      unfolding decodeJudgedIn
+      all-admitted b = rw (a, b)
 
-pub memory-refused : (F : Frame) (m : Room) → frameJudged F ≡ Admitted → enough (F .variables) (graph F .entries) m ≡ false → decodeJudged F m ≡ Refused Buffer
-unfolding decodeJudged
-memory-refused F m a b = rw (a, b)
+-- the answer of `accept`, once its judgement j is known; the list is as the check of the graph left it
+pub accepts-as : (F : Frame) (m : Room) {r : Judged} {old now : List ℕ} {j : Judged} {a : Checked} → Lent.Checks limits (graph F) r old now
+    → decodeJudgedIn F (length old) m ≡ j → a ≡ checked j (settings (F .asked)) → Accepts F m a old now
+accepts-as F m k h q = record { answer = q ∙ ap (λ j. checked j (settings (F .asked))) (sym h); degrees = k .degrees }
 
-pub all-admitted : (F : Frame) (m : Room) → frameJudged F ≡ Admitted → enough (F .variables) (graph F .entries) m ≡ true → decodeJudged F m ≡ Admitted
-unfolding decodeJudged
-all-admitted F m a b = rw (a, b)
+-- a list for the most variables changes no answer
+pub lent-alike : (F : Frame) (d : ℕ) → 4 * limits .variables ≤ d → LentAlike F d
+unfolding frameJudged decodeJudged frameJudgedIn decodeJudgedIn
+lent-alike F d l = record { frame = rw (Lending.lent-alike limits (graph F) d l); decode = λ m. rw (Lending.lent-alike limits (graph F) d l) }
 
 -- what the answer of the settings' check tells
 pub checked-refused : (j : Judged) (s : Settings) {r : Refusal} → checked j s ≡ Checks.Refused r → j ≡ Refused r
@@ -127,6 +146,21 @@ memory-told F m h = (
   orElse-left (frameJudged F) (unless (enough (F .variables) (graph F .entries) m) Buffer) h,
   unless-true (enough (F .variables) (graph F .entries) m) Buffer (orElse-right (frameJudged F) (unless (enough (F .variables) (graph F .entries) m) Buffer) h),
 )
+
+-- ---- what `accept` tells, lent a list of degrees
+
+module _ {F : Frame} {m : Room} {a : Checked} {old now : List ℕ} (accepts : Accepts F m a old now) where
+  pub accepted-alike : 4 * limits .variables ≤ length old → a ≡ checked (decodeJudged F m) (settings (F .asked))
+  accepted-alike l = accepts .answer ∙ ap (λ j. checked j (settings (F .asked))) (lent-alike F (length old) l .decode m)
+
+  -- the list of an accepted frame holds its degrees
+  pub accepted-degrees : {s : Settings} → a ≡ Checks.Good s → Degrees (graph F) now
+  unfolding frameJudgedIn decodeJudgedIn
+  accepted-degrees h =
+      let d = length old in
+      let frame = orElse-left (frameJudgedIn F d) _ (checked-good (decodeJudgedIn F d m) (settings (F .asked)) (sym (accepts .answer) ∙ h)) in
+      let judged = orElse-left (graphJudgedIn limits (graph F) d) (askedJudged F) frame in
+      counted-degrees (graph F) _ (lent-admitted (graph F) d judged) (lent-counted limits (graph F) d old judged (accepts .degrees))
 
 -- ---- the answers of decode, from what `accept` answers
 

@@ -4,15 +4,14 @@ use mathlib.Core.List.{List, [], _∷_, _++_}
 use Prim.Native.Nat.{ℕ, zero, suc, _*_, _/_, _<_}
 use native.Mathlib.Nat.{mul-suc}
 use native.Mathlib.Omega.{arith}
-use lib.Dec.{eqb}
 use lib.Ieee.{Float}
 use lib.IntN.{pos}
-use lib.ListN.{length, getD, drop}
+use lib.ListN.{length, getD, drop, length-append}
 use mir.Syntax.{w32}
 use mir.Val.{ofZ}
-use Rattle.rules.specs.Ranges.{joined, count, one, tabulate}
+use Rattle.rules.specs.Ranges.{joined, one, tabulate}
 use Rattle.rules.specs.Levels.{Level, byte, levelOf, plusZero}
-use Rattle.rules.specs.Graphs.{Graph, limits, Admitted, variableDegree}
+use Rattle.rules.specs.Graphs.{Graph, Admitted, variableDegree}
 use Rattle.rules.specs.Nodes.{Offsets, firstMessage, firstBit}
 use Rattle.rules.specs.Sequence.{signPreserving, begun, final, report}
 use Rattle.rules.specs.declared.Report.{Report}
@@ -21,13 +20,13 @@ use Rattle.rules.proofs.Same.{final-same, report-same}
 use Rattle.rules.proofs.Filling.{map-tabulate, tabulate-add}
 use Rattle.rules.proofs.Own.{level-bytes}
 use Rattle.words.specs.Words.{bytes, table}
-use Rattle.words.specs.Roles.{columnAt, valueAt, graphOf}
-use Rattle.words.proofs.Words.{table-ext}
+use Rattle.words.specs.Roles.{wide, degreeAt, valueAt, graphOf}
+use Rattle.words.proofs.Words.{table-ext, length-table, at-table}
 use Rattle.channel.specs.declared.Settings.{Settings}
 use Rattle.channel.specs.Values.{channelLevel}
 use Rattle.channel.proofs.Magnitudes.{magnitudes-within}
 use Rattle.nodes.specs.Memory.{levelIn}
-use Rattle.decoder.specs.Steps.{Holds, Sized, Begins, rulesUnder, Runs, levelsUnder, RunsFrom}
+use Rattle.decoder.specs.Steps.{Holds, Degrees, Sized, Begins, rulesUnder, Runs, levelsUnder, RunsFrom}
 use Rattle.decoder.specs.Decoding.{Memory, filled}
 use Rattle.decoder.specs.Frames.{memory}
 
@@ -48,12 +47,12 @@ module _ (n : ℕ) (starts columns : List ℕ) (Nq : ℕ) (φ : Offsets) {values
   pub begun-length : length y ≡ n
   begun-length = ap length (begins .levels) ∙ length-tabulate (λ v. byte (channelLevel Nch factor values v)) (length values / 4) ∙ many
 
-  pub begun-holds : E ≡ length columns / 2 → s ≡ 4 * n
+  pub begun-holds : E ≡ length columns / wide → s ≡ 4 * n
       → Holds (graphOf n starts columns) (begun (graphOf n starts columns) (signPreserving (graphOf n starts columns) Nq φ (levelIn y))) q C S b
   unfolding signPreserving begun firstMessage firstBit byte
   begun-holds e f = record {
-    variableMessages = begins .variableMessages ∙ sym (map-tabulate byte (firstMessage (graphOf n starts columns) Nq (levelIn y)) (length columns / 2));
-    checkMessages = begins .checkMessages ∙ ap (tabulate (λ k. 0)) e ∙ sym (map-tabulate byte (λ e. plusZero) (length columns / 2));
+    variableMessages = begins .variableMessages ∙ sym (map-tabulate byte (firstMessage (graphOf n starts columns) Nq (levelIn y)) (length columns / wide));
+    checkMessages = begins .checkMessages ∙ ap (tabulate (λ k. 0)) e ∙ sym (map-tabulate byte (λ e. plusZero) (length columns / wide));
     sums = begins .sums ∙ ap (tabulate (λ k. 0)) f ∙ sym (zeros n)
         ∙ table-ext 4 (λ v. 0) (λ v. ofZ w32 (getD (tabulate (λ v. pos 0) n) v (pos 0))) n (λ v l. sym (ap (ofZ w32) (getD-tabulate (λ v. pos 0) n v (pos 0) l)));
     bits = begins .bits ∙ ap (tabulate (λ v. one (firstBit (levelIn y) v))) begun-length ∙ sym (map-tabulate one (firstBit (levelIn y)) n);
@@ -65,20 +64,24 @@ module _ (n : ℕ) (starts columns : List ℕ) (Nq : ℕ) (φ : Offsets) {values
       ap (λ k. levelOf (getD k v 0)) (begins .levels) ∙ ap levelOf (getD-tabulate (λ v. byte (channelLevel Nch factor values v)) (length values / 4) v 0 (omega arith))
       ∙ level-bytes .0 (channelLevel Nch factor values v) (omega (arith, magnitudes-within Nch factor (valueAt values v)))
 
--- memory for the run, once the degrees are counted
-pub ready-sized : (n : ℕ) (starts columns : List ℕ) {y d q C S b : List ℕ} → Admitted (graphOf n starts columns) → length d ≡ limits .variables
-    → ((v : ℕ) → v < limits .variables → getD d v 0 ≡ count (λ e. eqb (columnAt columns e) v) 0 (length columns / 2))
-    → length y ≡ n → length q ≡ length columns / 2 → length C ≡ length columns / 2 → length S ≡ 4 * n → length b ≡ n → Sized (graphOf n starts columns) y d q C S b
-unfolding variableDegree
-ready-sized n starts columns ok long degrees ly lq lC lS lb = record {
+-- memory for the run
+pub ready-sized : (G : Graph) {y d q C S b : List ℕ} → Admitted G → Degrees G d
+    → length y ≡ G .variables → length q ≡ G .entries → length C ≡ G .entries → length S ≡ 4 * G .variables → length b ≡ G .variables → Sized G y d q C S b
+ready-sized G ok counted ly lq lC lS lb = record {
   admitted = ok;
   levels = ly;
-  degrees = λ v l. degrees v (omega (arith, ok .variables));
-  enough = omega (arith, ok .variables);
+  counted = counted;
   variableMessages = lq;
   checkMessages = lC;
   sums = lS;
   bits = lb;
+}
+
+-- the list after the degrees are counted, in its front
+pub counted-degrees : (G : Graph) {d : List ℕ} (t : List ℕ) → Admitted G → d ≡ table 4 (variableDegree G) (G .variables) ++ t → Degrees G d
+counted-degrees G {d} t ok e = record {
+  degrees = λ v l. ap (λ k. degreeAt k v) e ∙ at-table 4 (variableDegree G) (G .variables) t v l (omega (arith, ok .variableDegrees v l .1));
+  enough = omega (arith, ap length e, length-append (table 4 (variableDegree G) (G .variables)) t, length-table 4 (variableDegree G) (G .variables));
 }
 
 -- the run from the levels in bytes is the run from the channel levels

@@ -2,7 +2,7 @@
 use mathlib.Core.Path.{_≡_, refl, sym, ap, ap₂, _∙_, fun-ext, subst}
 use mathlib.Core.Bool.{Bool, true, false, not, cond, _||_, true≢false}
 use mathlib.Core.List.{List, map}
-use Prim.Native.Nat.{ℕ, zero, suc, _+_, _*_, _-_, _^_, _≤_, _<_}
+use Prim.Native.Nat.{ℕ, zero, suc, _+_, _*_, _^_, _≤_, _<_}
 use native.Mathlib.Decide.{decLt}
 use native.Mathlib.Nat.{mul-le-mul-right}
 use native.Mathlib.Numerals.{add-one}
@@ -301,8 +301,7 @@ pub sized-again : {G : Graph} {y d q C S b q₁ C₁ S₁ b₁ : List ℕ} → S
 sized-again z lq lC lS lb = record {
   admitted = z .admitted;
   levels = z .levels;
-  degrees = z .degrees;
-  enough = z .enough;
+  counted = z .counted;
   variableMessages = lq ∙ z .variableMessages;
   checkMessages = lC ∙ z .checkMessages;
   sums = lS ∙ z .sums;

@@ -2,7 +2,7 @@
 use mathlib.Core.Path.{_≡_, refl, sym, ap, ap₂, _∙_}
 use mathlib.Core.Bool.{Bool, true, false, cond}
 use mathlib.Core.List.{List, [], _++_, append-nil}
-use Prim.Native.Nat.{ℕ, _+_, _*_, _-_, _/_, _^_, _≤_, _<_}
+use Prim.Native.Nat.{ℕ, _*_, _/_, _^_, _≤_, _<_}
 use native.Mathlib.Omega.{arith}
 use lib.Dec.{eqb}
 use lib.IntN.{ℤ, pos, natAbs, _+ℤ_}
@@ -15,7 +15,7 @@ use Rattle.rules.specs.Graphs.{Admitted, variableDegree, checkOf}
 use Rattle.rules.specs.Nodes.{others, fromCheck, contribution, odd, extra, channelPart, bitOf}
 use Rattle.rules.proofs.Ranges.{tabulate-ext}
 use Rattle.rules.proofs.Bounds.{abs-contribution}
-use Rattle.words.specs.Roles.{columnAt, sumAt, sumTable, graphOf}
+use Rattle.words.specs.Roles.{columnAt, degreeAt, sumAt, sumTable, graphOf}
 use Rattle.words.proofs.Words.{table-ext, length-table}
 use Rattle.words.proofs.Signed.{sum-at-table}
 use Rattle.nodes.specs.Memory.{levelIn, onStarts}
@@ -50,14 +50,14 @@ module _ (n : ℕ) (starts columns : List ℕ) (ok : Admitted (graphOf n starts 
 
   -- the channel's parts, as they stand in the list of sums
   module _ {y d q C S b : List ℕ} (sized : Sized (graphOf n starts columns) y d q C S b) {S₁ : List ℕ}
-      (e₁ : S₁ ≡ sumTable (λ v. contribution (extra (getD d v 0)) (levelIn y v)) (length y)) where
+      (e₁ : S₁ ≡ sumTable (λ v. contribution (extra (degreeAt d v)) (levelIn y v)) (length y)) where
     part-at : (v : ℕ) → v < n → sumAt S₁ v ≡ channelPart (graphOf n starts columns) (levelIn y) v
     unfolding channelPart
     part-at v l =
         ap (λ s. sumAt s v) e₁
-        ∙ sum-in (λ v. contribution (extra (getD d v 0)) (levelIn y v)) (length y) v (omega (arith, sized .levels))
-        (omega (arith, abs-contribution (extra (getD d v 0)) (levelIn y v), magnitude-small (getD y v 0), extra-small (getD d v 0)))
-        ∙ ap (λ k. contribution (extra k) (levelIn y v)) (sized .degrees v l)
+        ∙ sum-in (λ v. contribution (extra (degreeAt d v)) (levelIn y v)) (length y) v (omega (arith, sized .levels))
+        (omega (arith, abs-contribution (extra (degreeAt d v)) (levelIn y v), magnitude-small (getD y v 0), extra-small (degreeAt d v)))
+        ∙ ap (λ k. contribution (extra k) (levelIn y v)) (sized .counted .degrees v l)
 
     pub part-small : (v : ℕ) → v < n → natAbs (sumAt S₁ v) ≤ 1024
     unfolding channelPart
@@ -71,7 +71,7 @@ module _ (n : ℕ) (starts columns : List ℕ) (ok : Admitted (graphOf n starts 
         )
 
     pub part-length : length S₁ ≡ 4 * n
-    part-length = ap length e₁ ∙ length-table 4 (λ v. ofZ w32 (contribution (extra (getD d v 0)) (levelIn y v))) (length y) ∙ ap (4 *_) (sized .levels)
+    part-length = ap length e₁ ∙ length-table 4 (λ v. ofZ w32 (contribution (extra (degreeAt d v)) (levelIn y v))) (length y) ∙ ap (4 *_) (sized .levels)
 
     -- all four calls
     pub iterated-is : {parts : List ℤ} → Parts parts → {C₁ S₂ b₁ : List ℕ} → C₁ ≡ tabulate (λ e. byte (fromCheck (onStarts starts) (levelIn q) e)) (length q) → length C₁ ≡ length C

@@ -10,11 +10,12 @@ use Rattle.channel.specs.Reversal.{reversed}
 use Rattle.channel.proofs.Reversing.{length-reversed, reversed-judged, reversed-levels}
 use Rattle.decoder.specs.Decoding.{graph, levels, offsetsOf}
 use Rattle.decoder.specs.Symmetry.{reversedBy, Demand3}
-use Rattle.decoder.proofs.Accepting.{Told, frame-told, values-judged}
+use Rattle.decoder.proofs.Accepting.{Told, frame-told, frame-asked, values-judged}
 
 pub demand3 : Demand3
 demand3 F bytes accepted c = record {
-  accepted = values-judged (reversedBy c F) (told .graph) count (told .settings) (reversed-judged c (F .values) bytes ∙ told .values);
+  accepted = frame-asked (reversedBy c F) (told .graph)
+      (values-judged (reversedBy c F) count (told .settings) (reversed-judged c (F .values) bytes ∙ told .values));
   symmetric = symmetry (graph F) (graph-admitted (graph F) (told .graph)) (largest (F .asked .message)) (offsetsOf F) c (levels F) (levels (reversedBy c F))
       (λ v l. reversed-levels c (F .values) bytes (told .values) (largest (F .asked .channel)) (factorOf (F .asked .scaling)) v (within v l));
 }

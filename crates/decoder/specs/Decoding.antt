@@ -16,10 +16,12 @@ use Rattle.rules.specs.declared.Judged.{Judged}
 use Rattle.rules.specs.declared.Judged.the-variants as Judgement
 use Rattle.rules.specs.declared.Refusal.the-variants.{Length, Buffer}
 use Rattle.words.specs.Roles.{sumTable, graphOf}
-use Rattle.graph.specs.Judging.{graphJudged}
+use Rattle.graph.specs.Judging.{graphJudged, countable, graphJudgedIn}
+use Rattle.graph.specs.Degrees.{degreesIn}
 use Rattle.channel.specs.declared.Parameters.{Parameters}
+use Rattle.channel.specs.declared.Checked.{Checked}
 use Rattle.channel.specs.Scaling.{factorOf}
-use Rattle.channel.specs.Settings.{settingsJudged}
+use Rattle.channel.specs.Settings.{settings, settingsJudged, checked}
 use Rattle.channel.specs.Values.{valuesJudged, channelLevel}
 use Rattle.decoder.specs.declared.Room.{Room}
 use Rattle.decoder.specs.declared.Decoded.{Decoded}
@@ -82,18 +84,28 @@ module _ (F : Frame) where
   abbrev pub scheme : Scheme
   scheme = signPreserving graph (largest (F .asked .message)) offsetsOf levels
 
-  -- 'The graph's five; 13, other than n values (their number); 8, precisions not admitted; 9, an offset above 1 or limit above 255; 10, gain or
-  -- variance not finite and above zero; 11, factor infinite or zero; 12, a value infinite or NaN (first index).'
-  unfoldable pub frameJudged : Judged
-  frameJudged =
-      orElse (graphJudged limits graph)
-      (orElse (unless (eqb (length (F .values) / 4) (F .variables)) (Length (length (F .values) / 4)))
+  -- '13, other than n values (their number); 8, precisions not admitted; 9, an offset above 1 or limit above 255; 10, gain or variance not
+  -- finite and above zero; 11, factor infinite or zero; 12, a value infinite or NaN (first index).'
+  abbrev pub askedJudged : Judged
+  askedJudged =
+      orElse (unless (eqb (length (F .values) / 4) (F .variables)) (Length (length (F .values) / 4)))
       (orElse (settingsJudged (F .asked))
-      (valuesJudged (F .values))))
+      (valuesJudged (F .values)))
+
+  -- 'The graph's five', then these.
+  unfoldable pub frameJudged : Judged
+  frameJudged = orElse (graphJudged limits graph) askedJudged
 
   -- '6, a lent buffer too short.'
   unfoldable pub decodeJudged : Room → Judged
   decodeJudged m = orElse frameJudged (unless (enough (F .variables) (graph .entries) m) Buffer)
+
+  -- Both where a list of d bytes is lent for the variables' degrees.
+  unfoldable pub frameJudgedIn : ℕ → Judged
+  frameJudgedIn d = orElse (graphJudgedIn limits graph d) askedJudged
+
+  unfoldable pub decodeJudgedIn : ℕ → Room → Judged
+  decodeJudgedIn d m = orElse (frameJudgedIn d) (unless (enough (F .variables) (graph .entries) m) Buffer)
 
   -- The answer, and the memory afterwards: 'every refusal changes no lent byte'.
   abbrev pub decoded : Judged → Decoded
@@ -108,3 +120,13 @@ module _ (F : Frame) where
 pub record Decodes (F : Frame) (M M′ : Memory) (r : Decoded) : Type 0 where
   pub answer : r ≡ decoded F (decodeJudged F (roomOf M))
   pub memory : M′ ≡ memoryAfter F (decodeJudged F (roomOf M)) M
+
+-- What accepting a frame for memory of the lengths m promises of its answer r and of the list lent for the degrees, old before and now after.
+pub record Accepts (F : Frame) (m : Room) (r : Checked) (old now : List ℕ) : Type 0 where
+  pub answer : r ≡ checked (decodeJudgedIn F (length old) m) (settings (F .asked))
+  pub degrees : now ≡ degreesIn (countable limits (graph F) (length old)) (graph F) old
+
+-- 'The same answers as before where that list is long enough.'
+pub record LentAlike (F : Frame) (d : ℕ) : Type 0 where
+  pub frame : frameJudgedIn F d ≡ frameJudged F
+  pub decode : (m : Room) → decodeJudgedIn F d m ≡ decodeJudged F m

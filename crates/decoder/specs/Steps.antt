@@ -15,7 +15,7 @@ use Rattle.rules.specs.Sequence.{Scheme, State, signPreserving, begun, final, r
 use Rattle.rules.specs.declared.Judged.the-variants as Judgement
 use Rattle.rules.specs.declared.Report.{Report}
 use Rattle.rules.specs.declared.Verdict.the-variants.{Codeword, Stopped}
-use Rattle.words.specs.Roles.{sumTable}
+use Rattle.words.specs.Roles.{wide, degreeAt, sumTable}
 use Rattle.channel.specs.declared.Settings.{Settings}
 use Rattle.channel.specs.Values.{valuesJudged, channelLevel}
 use Rattle.channel.specs.Theorems.{Admissible}
@@ -30,12 +30,16 @@ pub record Holds (G : Graph) (σ : State) (q C S b : List ℕ) : Type 0 where
   pub sums : S ≡ sumTable (λ v. getD (σ .sums) v (pos 0)) (G .variables)
   pub bits : b ≡ map one (σ .bits)
 
+-- A list of bytes that holds the degree of each variable.
+pub record Degrees (G : Graph) (d : List ℕ) : Type 0 where
+  pub degrees : (v : ℕ) → v < G .variables → degreeAt d v ≡ variableDegree G v
+  pub enough : 4 * G .variables ≤ length d
+
 -- Levels y, degrees d, and lists q, C, S and b of exactly the right lengths for an iteration on G.
 pub record Sized (G : Graph) (y d q C S b : List ℕ) : Type 0 where
   pub admitted : Admitted G
   pub levels : length y ≡ G .variables
-  pub degrees : (v : ℕ) → v < G .variables → getD d v 0 ≡ variableDegree G v
-  pub enough : G .variables ≤ length d
+  pub counted : Degrees G d
   pub variableMessages : length q ≡ G .entries
   pub checkMessages : length C ≡ G .entries
   pub sums : length S ≡ 4 * G .variables
@@ -54,7 +58,7 @@ pub record Iterates (G : Graph) (y q : ℕ → Level) (parts : List ℤ) (C S b 
 -- What iteration 0 makes of the values; E and s are the lengths of the lists of check messages and of sums.
 pub record Begins (values : List ℕ) (factor : Float) (Nch Nq : ℕ) (columns : List ℕ) (E s : ℕ) (y q C S b : List ℕ) : Type 0 where
   pub levels : y ≡ tabulate (λ v. byte (channelLevel Nch factor values v)) (length values / 4)
-  pub variableMessages : q ≡ tabulate (λ e. byte (firstMessage (onColumns columns) Nq (levelIn y) e)) (length columns / 2)
+  pub variableMessages : q ≡ tabulate (λ e. byte (firstMessage (onColumns columns) Nq (levelIn y) e)) (length columns / wide)
   pub checkMessages : C ≡ tabulate (λ k. 0) E
   pub sums : S ≡ tabulate (λ k. 0) s
   pub bits : b ≡ tabulate (λ v. one (firstBit (levelIn y) v)) (length y)

@@ -3,12 +3,11 @@ ghost use mathlib.Core.Path.{_≡_};
 ghost use Prim.Native.Nat.{_≤_};
 ghost use Rattle.rules.specs.Levels.{largest};
 ghost use Rattle.rules.specs.Graphs.{limits};
-ghost use Rattle.channel.specs.Settings.{settings, checked};
 ghost use Rattle.decoder.specs.Frames.{frame, memory};
 ghost use Rattle.words.specs.Roles.{graphOf};
 ghost use Rattle.nodes.specs.Memory.{levelIn};
-ghost use Rattle.decoder.specs.Decoding.{Decodes, enough, decodeJudged, roomOf};
-ghost use Rattle.decoder.specs.Steps.{Begun, sends, reportAt, RunsUnder, Ready, exact, RunsFrom};
+ghost use Rattle.decoder.specs.Decoding.{Decodes, Accepts, enough, roomOf};
+ghost use Rattle.decoder.specs.Steps.{Degrees, Begun, sends, reportAt, RunsUnder, Ready, exact, RunsFrom};
 use channel::Checked;
 use channel::Parameters;
 use channel::Settings;
@@ -66,7 +65,7 @@ fn run(
     starts: &[u8],
     columns: &[u8],
     levels: &[u8],
-    degrees: &[u16],
+    degrees: &[u8],
     variable_messages: &mut [u8],
     check_messages: &mut [u8],
     sums: &mut [u8],
@@ -119,18 +118,19 @@ fn long_enough(n: usize, e: usize, room: Room) -> bool
             & ((e <= room.check_messages) & ((4 * n <= room.sums) & (n <= room.bits))))
 }
 
-// The settings of a frame, or why it is turned down where memory of these lengths is lent.
+// The settings of a frame, or why it is turned down where memory of these lengths is lent; counts the variables' degrees in the lent list.
 pub fn accept(
     n: usize,
     starts: &[u8],
     columns: &[u8],
     values: &[u8],
     asked: Parameters,
+    degrees: &mut [u8],
     room: Room,
 ) -> Checked
-    ensures { λ r. ⌜ r ≡ checked (decodeJudged (frame n (now (starts .entry)) (now (columns .entry)) (now (values .entry)) asked) room) (settings asked) ⌝ }
+    ensures { λ r. ⌜ Accepts (frame n (now (starts .entry)) (now (columns .entry)) (now (values .entry)) asked) room r (now (degrees .entry)) (now (degrees .exit)) ⌝ }
 {
-    let j = graph::check(n, starts, columns);
+    let j = graph::check_into(n, starts, columns, degrees);
     if let Judged::Refused(r) = j {
         return Checked::Refused(r);
     }
@@ -146,7 +146,7 @@ pub fn accept(
     if let Judged::Refused(r) = j {
         return Checked::Refused(r);
     }
-    if !long_enough(n, columns.len() / 2, room) {
+    if !long_enough(n, columns.len() / words::WIDE, room) {
         return Checked::Refused(Refusal::Buffer);
     }
     c
@@ -173,6 +173,7 @@ fn decode_exactly(
     starts: &[u8],
     columns: &[u8],
     values: &[u8],
+    degrees: &[u8],
     levels: &mut [u8],
     variable_messages: &mut [u8],
     check_messages: &mut [u8],
@@ -180,11 +181,10 @@ fn decode_exactly(
     bits: &mut [u8],
 ) -> Report
     requires { ⌜ Ready s (graphOf n (now starts) (now columns)) (now values) ⌝ }
+    requires { ⌜ Degrees (graphOf n (now starts) (now columns)) (now degrees) ⌝ }
     requires { ⌜ exact (graphOf n (now starts) (now columns)) (roomOf (memory (now levels) (now «variable_messages») (now «check_messages») (now sums) (now bits))) ⌝ }
     ensures { λ r. ⌜ RunsFrom s (graphOf n (now (starts .entry)) (now (columns .entry))) (now (values .entry)) r (now (levels .exit)) (now («variable_messages» .exit)) (now («check_messages» .exit)) (now (sums .exit)) (now (bits .exit)) ⌝ }
 {
-    let mut degrees = [0u16; rules::MOST_VARIABLES];
-    graph::count_degrees(columns, &mut degrees);
     let channel_most = largest(s.channel);
     let message_most = largest(s.message);
     step::begin(
@@ -205,7 +205,7 @@ fn decode_exactly(
         starts,
         columns,
         levels,
-        &degrees,
+        degrees,
         variable_messages,
         check_messages,
         sums,
@@ -235,11 +235,12 @@ pub fn decode(
         sums: sums.len(),
         bits: bits.len(),
     };
-    let c = accept(n, starts, columns, values, asked, room);
+    let mut degrees = [0u8; 4 * rules::MOST_VARIABLES];
+    let c = accept(n, starts, columns, values, asked, &mut degrees, room);
     match c {
         Checked::Refused(r) => Decoded::Refused(r),
         Checked::Good(s) => {
-            let e = columns.len() / 2;
+            let e = columns.len() / words::WIDE;
             let w = 4 * n;
             let o = decode_exactly(
                 s,
@@ -247,6 +248,7 @@ pub fn decode(
                 starts,
                 columns,
                 values,
+                &degrees,
                 &mut levels[..n],
                 &mut variable_messages[..e],
                 &mut check_messages[..e],

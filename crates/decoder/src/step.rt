@@ -5,7 +5,7 @@ ghost use lib.IntN.{natAbs};
 ghost use lib.ListN.{length};
 ghost use Rattle.rules.specs.Ranges.{tabulate};
 ghost use Rattle.rules.specs.declared.Judged.the-variants.{Admitted};
-ghost use Rattle.words.specs.Roles.{columnAt, sumAt, graphOf};
+ghost use Rattle.words.specs.Roles.{wide, columnAt, sumAt, graphOf};
 ghost use Rattle.channel.specs.Values.{valuesJudged};
 ghost use Rattle.nodes.specs.Memory.{levelIn};
 ghost use Rattle.nodes.specs.Lists.{Parts, sentBy};
@@ -24,9 +24,9 @@ pub fn begin(
     sums: &mut [u8],
     bits: &mut [u8],
 )
-    requires { ⌜ (length (now levels) ≡ length (now values) / 4) × (length (now «variable_messages») ≡ length (now columns) / 2) × (length (now bits) ≡ length (now levels)) ⌝ }
+    requires { ⌜ (length (now levels) ≡ length (now values) / 4) × (length (now «variable_messages») ≡ length (now columns) / wide) × (length (now bits) ≡ length (now levels)) ⌝ }
     requires { ⌜ (valuesJudged (now values) ≡ Admitted) × («channel_most» < 128) × («message_most» < 128) ⌝ }
-    requires { ⌜ ((e : ℕ) → e < length (now columns) / 2 → columnAt (now columns) e < length (now levels)) ⌝ }
+    requires { ⌜ ((e : ℕ) → e < length (now columns) / wide → columnAt (now columns) e < length (now levels)) ⌝ }
     ensures { λ _. ⌜ Begins (now (values .entry)) factor «channel_most» «message_most» (now (columns .entry)) (length (now («check_messages» .entry))) (length (now (sums .entry))) (now (levels .exit)) (now («variable_messages» .exit)) (now («check_messages» .exit)) (now (sums .exit)) (now (bits .exit)) ⌝ }
 {
     channel::quantise(values, factor, channel_most, levels);
@@ -46,7 +46,7 @@ pub fn send(
     messages: &[u8],
     variable_messages: &mut [u8],
 )
-    requires { ⌜ (length (now «check_messages») ≡ length (now columns) / 2) × (length (now «variable_messages») ≡ length (now «check_messages»)) × Parts (now parts) × (length (now messages) ≡ 35) ⌝ }
+    requires { ⌜ (length (now «check_messages») ≡ length (now columns) / wide) × (length (now «variable_messages») ≡ length (now «check_messages»)) × Parts (now parts) × (length (now messages) ≡ 35) ⌝ }
     requires { ⌜ ((e : ℕ) → e < length (now «check_messages») → columnAt (now columns) e < length (now sums) / 4) ⌝ }
     requires { ⌜ ((v : ℕ) → v < length (now sums) / 4 → natAbs (sumAt (now sums) v) < 2 ^ 30) ⌝ }
     ensures { λ _. ⌜ now («variable_messages» .exit) ≡ whenSent done (now («variable_messages» .entry)) (tabulate (sentBy (now (parts .entry)) (now (messages .entry)) (columnAt (now (columns .entry))) (now (sums .entry)) (now («check_messages» .entry))) (length (now («check_messages» .entry)))) ⌝ }
@@ -69,7 +69,7 @@ pub fn iterate(
     starts: &[u8],
     columns: &[u8],
     levels: &[u8],
-    degrees: &[u16],
+    degrees: &[u8],
     parts: &[i32],
     variable_messages: &[u8],
     check_messages: &mut [u8],

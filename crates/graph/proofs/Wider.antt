@@ -4,7 +4,7 @@ use native.Mathlib.Omega.{arith}
 use Rattle.rules.specs.Graphs.{Graph, Limits, Wider}
 use Rattle.rules.specs.declared.Judged.the-variants as Judgement
 use Rattle.graph.specs.Judging.{countsJudged, checkDegreesJudged, variableDegreesJudged, graphJudged}
-use Rattle.graph.specs.Calls.{JudgedAlike}
+use Rattle.graph.specs.Calls.{WiderAlike}
 use Rattle.graph.proofs.Parts.{counts-told, counts-admitted}
 
 module _ {L M : Limits} (w : Wider L M) (G : Graph) where
@@ -25,6 +25,6 @@ module _ {L M : Limits} (w : Wider L M) (G : Graph) where
   unfolding variableDegreesJudged
   variable-degrees-alike = rw (w .variableDegree)
 
-pub judged-alike : JudgedAlike
+pub wider-alike : WiderAlike
 unfolding graphJudged
-judged-alike L M w G h = rw (h, counts-wider w G h, check-degrees-alike w G, variable-degrees-alike w G)
+wider-alike L M w G h = rw (h, counts-wider w G h, check-degrees-alike w G, variable-degrees-alike w G)

@@ -10,7 +10,7 @@ use Rattle.rules.specs.Refusals.{unless, orElse, each}
 use Rattle.rules.specs.declared.Judged.{Judged}
 use Rattle.rules.specs.declared.Judged.the-variants as Judgement
 use Rattle.rules.specs.declared.Refusal.the-variants.{Range, Length, Bit}
-use Rattle.words.specs.Roles.{bitOfByte}
+use Rattle.words.specs.Roles.{wide, bitOfByte}
 use Rattle.graph.specs.Judging.{countsJudged, graphJudged}
 use Rattle.graph.specs.declared.OddChecks.{OddChecks}
 use Rattle.graph.specs.declared.OddChecks.the-variants as Answer
@@ -20,17 +20,17 @@ abbrev pub JudgedRightly : Type 0
 JudgedRightly = (L : Limits) (G : Graph) → (graphJudged L G ≡ Judgement.Admitted) ↔ AdmittedWithin L G
 
 -- A graph whose counts are within L is judged alike under wider limits.
-abbrev pub JudgedAlike : Type 0
-JudgedAlike = (L M : Limits) → Wider L M → (G : Graph) → countsJudged L G ≡ Judgement.Admitted → graphJudged M G ≡ graphJudged L G
+abbrev pub WiderAlike : Type 0
+WiderAlike = (L M : Limits) → Wider L M → (G : Graph) → countsJudged L G ≡ Judgement.Admitted → graphJudged M G ≡ graphJudged L G
 
 -- 'Row of a check: the graph's five; 3, a check number not below m (that number).'
 unfoldable pub rowJudgement : Graph → ℕ → Judged
 rowJudgement G i = orElse (graphJudged limits G) (unless (ltb i (G .checks)) (Range i))
 
 -- 'The columns of one check are handed back as that part of the caller's list; where the graph or the check number is refused the
--- part is empty.' A column is two bytes.
+-- part is empty.' A column is `wide` bytes.
 abbrev pub partOf : Judged → Graph → List ℕ → ℕ → List ℕ
-partOf Judgement.Admitted G columns i = take (2 * checkDegree G i) (drop (2 * G .start i) columns)
+partOf Judgement.Admitted G columns i = take (wide * checkDegree G i) (drop (wide * G .start i) columns)
 partOf (Judgement.Refused r) G columns i = []
 
 -- '15, a byte not 0 or 1 (first index).'

@@ -1,10 +1,37 @@
--- The variables' degrees, as they are counted.
-use mathlib.Core.List.{List}
-use Prim.Native.Nat.{ℕ, _+_, min}
+-- Document 02, item 9: 'variable degrees are counted in a further lent list of n 32-bit numbers'.
+use mathlib.Core.Path.{_≡_}
+use mathlib.Core.List.{List, _++_}
+use Prim.Native.Nat.{ℕ, _*_, _≤_}
 use lib.Dec.{eqb}
-use lib.ListN.{length, getD}
-use Rattle.rules.specs.Ranges.{count, tabulate}
+use lib.ListN.{length, drop}
+use Rattle.rules.specs.Ranges.{count}
+use Rattle.rules.specs.Graphs.{Graph, Limits, variableDegree}
+use Rattle.rules.specs.declared.Judged.{Judged}
+use Rattle.rules.specs.declared.Judged.the-variants as Judgement
+use Rattle.words.specs.Words.{table}
+use Rattle.graph.specs.Judging.{graphJudged, degreesJudged, countable, graphJudgedIn}
 
--- A list of u16 numbers with one added, for each of E entries, at the entry's column, up to the largest u16. Columns past the list are not counted.
-unfoldable pub tallied : (ℕ → ℕ) → ℕ → List ℕ → List ℕ
-tallied column E old = tabulate (λ v. min (getD old v 0 + count (λ e. eqb (column e) v) 0 E) 65535) (length old)
+-- How many of the first e columns name variable v. Of all the columns, that is its degree.
+unfoldable pub named : (ℕ → ℕ) → ℕ → ℕ → ℕ
+named column e v = count (λ k. eqb (column k) v) 0 e
+
+-- 'It holds the degrees after every call that came as far as 5, refused or not, and is unchanged otherwise.' Bytes past n numbers do not
+-- change.
+abbrev pub degreesIn : Judged → Graph → List ℕ → List ℕ
+degreesIn Judgement.Admitted G old = table 4 (variableDegree G) (G .variables) ++ drop (4 * G .variables) old
+degreesIn (Judgement.Refused r) G old = old
+
+-- The check of a graph that is lent the list: the answer r, and the list before and after.
+pub record Checks (L : Limits) (G : Graph) (r : Judged) (old now : List ℕ) : Type 0 where
+  pub answer : r ≡ graphJudgedIn L G (length old)
+  pub degrees : now ≡ degreesIn (countable L G (length old)) G old
+
+-- 5, in a list of exactly n numbers.
+pub record Judges (L : Limits) (G : Graph) (r : Judged) (now : List ℕ) : Type 0 where
+  pub answer : r ≡ degreesJudged L G
+  pub degrees : now ≡ table 4 (variableDegree G) (G .variables)
+
+-- 'Graphs within the old limits get the same answers as before where that list is long enough': a list for the most variables that L
+-- allows changes no answer.
+abbrev pub LentAlike : Type 0
+LentAlike = (L : Limits) (G : Graph) (d : ℕ) → 4 * L .variables ≤ d → graphJudgedIn L G d ≡ graphJudged L G

@@ -1,11 +1,11 @@
--- Document 01, 'Check a graph': the five refusals, each looked for over the whole input before the next.
+-- Document 01, 'Check a graph': the five refusals, each looked for over the whole input before the next; document 02, item 9: the list of degrees.
 use mathlib.Core.Bool.{Bool, not, _&&_, _||_}
-use Prim.Native.Nat.{ℕ, suc, _+_, _-_}
+use Prim.Native.Nat.{ℕ, suc, _+_, _*_, _-_}
 use lib.Dec.{eqb, leb, ltb}
 use Rattle.rules.specs.Graphs.{Graph, Limits, fewestVariables, fewestChecks, leastCheckDegree, leastVariableDegree, checkDegree, variableDegree}
 use Rattle.rules.specs.Refusals.{unless, orElse, each}
 use Rattle.rules.specs.declared.Judged.{Judged}
-use Rattle.rules.specs.declared.Refusal.the-variants.{Count, Range, Order, Degree, Start}
+use Rattle.rules.specs.declared.Refusal.the-variants.{Count, Range, Order, Degree, Buffer, Start}
 
 abbrev pub between : ℕ → ℕ → ℕ → Bool
 between low x high = leb low x && leb x high
@@ -51,3 +51,19 @@ module _ (L : Limits) (G : Graph) where
   graphJudged =
       orElse (countsJudged L G)
       (orElse (startsJudged G) (orElse (columnsJudged G) (orElse (rowsJudged G) (orElse checkDegreesJudged variableDegreesJudged))))
+
+  -- What comes before the degrees: 2, 7, 3, 4.
+  unfoldable pub shapeJudged : Judged
+  shapeJudged = orElse (countsJudged L G) (orElse (startsJudged G) (orElse (columnsJudged G) (rowsJudged G)))
+
+  -- 5: of the checks, then of the variables.
+  unfoldable pub degreesJudged : Judged
+  degreesJudged = orElse checkDegreesJudged variableDegreesJudged
+
+  -- 'A further lent list of n 32-bit numbers, and a shorter one gets 6 directly before 5': a list of d bytes is lent.
+  unfoldable pub countable : ℕ → Judged
+  countable d = orElse shapeJudged (unless (leb (4 * G .variables) d) Buffer)
+
+  -- 'Check a graph' where such a list is lent: 2, 7, 3, 4, 6, 5.
+  unfoldable pub graphJudgedIn : ℕ → Judged
+  graphJudgedIn d = orElse (countable d) degreesJudged

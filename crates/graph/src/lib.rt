@@ -1,13 +1,14 @@
 // The check of a graph, the row of a check, and the count of odd checks.
 ghost use mathlib.Core.Path.{_≡_};
-ghost use Prim.Native.Nat.{_+_, _-_, _/_, _≤_, min};
+ghost use Prim.Native.Nat.{ℕ, _*_, _-_, _/_, _^_, _≤_, _<_};
 ghost use lib.ListN.{length};
-ghost use Rattle.rules.specs.Graphs.{limits};
+ghost use Rattle.rules.specs.Graphs.{limits, variableDegree};
 ghost use Rattle.rules.specs.declared.Judged.the-variants as Judgement;
-ghost use Rattle.words.specs.Roles.{columnAt, graphOf};
-ghost use Rattle.graph.specs.Judging.{between, countsJudged, startFits, startsJudged, columnsJudged, spanJudged, rowsJudged, checkDegreesJudged, variableDegreesJudged, graphJudged};
+ghost use Rattle.words.specs.Words.{table};
+ghost use Rattle.words.specs.Roles.{wide, columnAt, graphOf};
+ghost use Rattle.graph.specs.Judging.{between, countsJudged, startFits, startsJudged, columnsJudged, spanJudged, rowsJudged, checkDegreesJudged, variableDegreesJudged, graphJudged, shapeJudged};
 ghost use Rattle.graph.specs.Calls.{rowJudgement, partOf, bytesJudged, bitsJudged, oddAnswer};
-ghost use Rattle.graph.specs.Degrees.{tallied};
+ghost use Rattle.graph.specs.Degrees.{named, Checks, Judges};
 use rules::Judged;
 use rules::Refusal;
 
@@ -21,9 +22,9 @@ fn in_range(low: usize, x: usize, high: usize) -> bool
 
 // How many checks the starts make.
 fn checks(starts: &[u8]) -> usize
-    ensures { λ r. ⌜ r ≡ length (now (starts .entry)) / 2 - 1 ⌝ }
+    ensures { λ r. ⌜ r ≡ length (now (starts .entry)) / wide - 1 ⌝ }
 {
-    let s = starts.len() / 2;
+    let s = starts.len() / words::WIDE;
     if s == 0 { 0 } else { s - 1 }
 }
 
@@ -37,7 +38,7 @@ fn check_counts(n: usize, starts: &[u8], columns: &[u8]) -> Judged
     if !in_range(rules::FEWEST_CHECKS, checks(starts), rules::MOST_CHECKS) {
         return Judged::Refused(Refusal::Count(0));
     }
-    if rules::MOST_ENTRIES < columns.len() / 2 {
+    if rules::MOST_ENTRIES < columns.len() / words::WIDE {
         return Judged::Refused(Refusal::Count(0));
     }
     Judged::Admitted
@@ -56,7 +57,7 @@ fn check_starts(n: usize, starts: &[u8], columns: &[u8]) -> Judged
     ensures { λ r. ⌜ r ≡ startsJudged (graphOf n (now (starts .entry)) (now (columns .entry))) ⌝ }
 {
     let m = checks(starts);
-    let count = columns.len() / 2;
+    let count = columns.len() / words::WIDE;
     let mut last = words::start(starts, 0);
     let mut next = 0;
     while next < m + 1 {
@@ -74,7 +75,7 @@ fn check_starts(n: usize, starts: &[u8], columns: &[u8]) -> Judged
 fn check_columns(n: usize, starts: &[u8], columns: &[u8]) -> Judged
     ensures { λ r. ⌜ r ≡ columnsJudged (graphOf n (now (starts .entry)) (now (columns .entry))) ⌝ }
 {
-    let count = columns.len() / 2;
+    let count = columns.len() / words::WIDE;
     let mut e = 0;
     while e < count {
         if n <= words::column(columns, e) {
@@ -87,7 +88,7 @@ fn check_columns(n: usize, starts: &[u8], columns: &[u8]) -> Judged
 
 // 4: the order of the columns from entry a to before entry b.
 fn check_row(columns: &[u8], a: usize, b: usize) -> Judged
-    requires { ⌜ (a ≤ b) × (b ≤ length (now columns) / 2) ⌝ }
+    requires { ⌜ (a ≤ b) × (b ≤ length (now columns) / wide) ⌝ }
     ensures { λ r. ⌜ r ≡ spanJudged (columnAt (now (columns .entry))) a b ⌝ }
 {
     let mut k = 0;
@@ -141,42 +142,45 @@ fn check_degrees(n: usize, starts: &[u8], columns: &[u8]) -> Judged
     Judged::Admitted
 }
 
-// d + 1, or d where a u16 holds no more.
-fn one_more(d: u16) -> u16
-    ensures { λ r. ⌜ r ≡ min (d + 1) 65535 ⌝ }
+// Makes the n degrees 0.
+fn clear_degrees(n: usize, degrees: &mut [u8])
+    requires { ⌜ length (now degrees) ≡ 4 * n ⌝ }
+    ensures { λ _. ⌜ now (degrees .exit) ≡ table 4 (λ v. 0) n ⌝ }
 {
-    if d < 65535 { d + 1 } else { 65535 }
-}
-
-// Adds one, for each entry, to the number of its variable; a number that a u16 holds no more stays at 65,535.
-pub fn count_degrees(columns: &[u8], degrees: &mut [u16])
-    ensures { λ _. ⌜ now (degrees .exit) ≡ tallied (columnAt (now (columns .entry))) (length (now (columns .entry)) / 2) (now (degrees .entry)) ⌝ }
-{
-    let count = columns.len() / 2;
-    let mut e = 0;
-    while e < count {
-        let v = words::column(columns, e);
-        e += 1;
-        if v < degrees.len() {
-            degrees[v] = one_more(degrees[v]);
-        }
+    let mut v = 0;
+    while v < n {
+        words::put_degree(degrees, v, 0);
+        v += 1;
     }
 }
 
-// 5: the degrees of the variables.
-fn variable_degrees(n: usize, starts: &[u8], columns: &[u8]) -> Judged
+// Adds one, for each entry, to the degree of its variable.
+fn add_entries(n: usize, columns: &[u8], degrees: &mut [u8])
+    requires { ⌜ (now degrees ≡ table 4 (λ v. 0) n) × (length (now columns) / wide < 2 ^ 32) ⌝ }
+    requires { ⌜ ((e : ℕ) → e < length (now columns) / wide → columnAt (now columns) e < n) ⌝ }
+    ensures { λ _. ⌜ now (degrees .exit) ≡ table 4 (named (columnAt (now (columns .entry))) (length (now (columns .entry)) / wide)) n ⌝ }
+{
+    let count = columns.len() / words::WIDE;
+    let mut e = 0;
+    while e < count {
+        let v = words::column(columns, e);
+        words::put_degree(degrees, v, (words::degree(degrees, v) + 1) as u32);
+        e += 1;
+    }
+}
+
+// 5: the degrees of the variables, by the list of them.
+fn variable_degrees(n: usize, starts: &[u8], columns: &[u8], degrees: &[u8]) -> Judged
     requires { ⌜ countsJudged limits (graphOf n (now starts) (now columns)) ≡ Judgement.Admitted ⌝ }
-    requires { ⌜ columnsJudged (graphOf n (now starts) (now columns)) ≡ Judgement.Admitted ⌝ }
+    requires { ⌜ now degrees ≡ table 4 (variableDegree (graphOf n (now starts) (now columns))) n ⌝ }
     ensures { λ r. ⌜ r ≡ variableDegreesJudged limits (graphOf n (now (starts .entry)) (now (columns .entry))) ⌝ }
 {
     let m = checks(starts);
-    let mut degrees = [0u16; rules::MOST_VARIABLES];
-    count_degrees(columns, &mut degrees);
     let mut v = 0;
     while v < n {
         if !in_range(
             rules::LEAST_VARIABLE_DEGREE,
-            degrees[v] as usize,
+            words::degree(degrees, v),
             rules::LARGEST_VARIABLE_DEGREE,
         ) {
             return Judged::Refused(Refusal::Degree(m + v));
@@ -186,9 +190,24 @@ fn variable_degrees(n: usize, starts: &[u8], columns: &[u8]) -> Judged
     Judged::Admitted
 }
 
-// Whether a graph is admitted.
-pub fn check(n: usize, starts: &[u8], columns: &[u8]) -> Judged
-    ensures { λ r. ⌜ r ≡ graphJudged limits (graphOf n (now (starts .entry)) (now (columns .entry))) ⌝ }
+// 5: counts the variables' degrees, then judges those of the checks and of the variables.
+fn judge_degrees(n: usize, starts: &[u8], columns: &[u8], degrees: &mut [u8]) -> Judged
+    requires { ⌜ shapeJudged limits (graphOf n (now starts) (now columns)) ≡ Judgement.Admitted ⌝ }
+    requires { ⌜ length (now degrees) ≡ 4 * n ⌝ }
+    ensures { λ r. ⌜ Judges limits (graphOf n (now (starts .entry)) (now (columns .entry))) r (now (degrees .exit)) ⌝ }
+{
+    clear_degrees(n, degrees);
+    add_entries(n, columns, degrees);
+    let j = check_degrees(n, starts, columns);
+    if let Judged::Refused(r) = j {
+        return Judged::Refused(r);
+    }
+    variable_degrees(n, starts, columns, degrees)
+}
+
+// 2, 7, 3, 4: all that comes before the degrees.
+fn check_shape(n: usize, starts: &[u8], columns: &[u8]) -> Judged
+    ensures { λ r. ⌜ r ≡ shapeJudged limits (graphOf n (now (starts .entry)) (now (columns .entry))) ⌝ }
 {
     let j = check_counts(n, starts, columns);
     if let Judged::Refused(r) = j {
@@ -202,15 +221,30 @@ pub fn check(n: usize, starts: &[u8], columns: &[u8]) -> Judged
     if let Judged::Refused(r) = j {
         return Judged::Refused(r);
     }
-    let j = check_rows(n, starts, columns);
+    check_rows(n, starts, columns)
+}
+
+// Whether a graph is admitted, with the variables' degrees counted in the lent list.
+pub fn check_into(n: usize, starts: &[u8], columns: &[u8], degrees: &mut [u8]) -> Judged
+    ensures { λ r. ⌜ Checks limits (graphOf n (now (starts .entry)) (now (columns .entry))) r (now (degrees .entry)) (now (degrees .exit)) ⌝ }
+{
+    let j = check_shape(n, starts, columns);
     if let Judged::Refused(r) = j {
         return Judged::Refused(r);
     }
-    let j = check_degrees(n, starts, columns);
-    if let Judged::Refused(r) = j {
-        return Judged::Refused(r);
+    if degrees.len() / 4 < n {
+        return Judged::Refused(Refusal::Buffer);
     }
-    variable_degrees(n, starts, columns)
+    let w = 4 * n;
+    judge_degrees(n, starts, columns, &mut degrees[..w])
+}
+
+// Whether a graph is admitted.
+pub fn check(n: usize, starts: &[u8], columns: &[u8]) -> Judged
+    ensures { λ r. ⌜ r ≡ graphJudged limits (graphOf n (now (starts .entry)) (now (columns .entry))) ⌝ }
+{
+    let mut degrees = [0u8; 4 * rules::MOST_VARIABLES];
+    check_into(n, starts, columns, &mut degrees)
 }
 
 // ---- row of a check
@@ -237,8 +271,8 @@ pub fn row<'a>(n: usize, starts: &[u8], columns: &'a [u8], i: usize) -> &'a [u8]
     if let Judged::Refused(_) = j {
         return &columns[0..0];
     }
-    let a = 2 * words::start(starts, i);
-    let b = 2 * words::start(starts, i + 1);
+    let a = words::WIDE * words::start(starts, i);
+    let b = words::WIDE * words::start(starts, i + 1);
     &columns[a..b]
 }
 

@@ -107,7 +107,7 @@ pub fn check_nodes(starts: &[u8], incoming: &[u8], outgoing: &mut [u8])
     requires { ⌜ Rows (now starts) (length (now incoming)) × (length (now outgoing) ≡ length (now incoming)) ⌝ }
     ensures { λ _. ⌜ now (outgoing .exit) ≡ tabulate (λ e. byte (fromCheck (onStarts (now (starts .entry))) (levelIn (now (incoming .entry))) e)) (length (now (incoming .entry))) ⌝ }
 {
-    let m = starts.len() / 2 - 1;
+    let m = starts.len() / words::WIDE - 1;
     let mut i = 0;
     while i < m {
         let a = words::start(starts, i);

@@ -5,7 +5,7 @@ ghost use lib.ListN.{length};
 ghost use Rattle.rules.specs.Ranges.{one, tabulate};
 ghost use Rattle.rules.specs.Levels.{byte, levelOf};
 ghost use Rattle.rules.specs.Nodes.{firstMessage, firstBit};
-ghost use Rattle.words.specs.Roles.{columnAt};
+ghost use Rattle.words.specs.Roles.{wide, columnAt};
 ghost use Rattle.nodes.specs.Memory.{levelIn, onColumns};
 
 // The level b with its magnitude at most `most`.
@@ -22,7 +22,7 @@ fn clipped(b: u8, most: u8) -> u8
 
 // The first messages of all entries.
 pub fn first_messages(columns: &[u8], levels: &[u8], most: u8, outgoing: &mut [u8])
-    requires { ⌜ (length (now outgoing) ≡ length (now columns) / 2) × (most < 128) ⌝ }
+    requires { ⌜ (length (now outgoing) ≡ length (now columns) / wide) × (most < 128) ⌝ }
     requires { ⌜ ((e : ℕ) → e < length (now outgoing) → columnAt (now columns) e < length (now levels)) ⌝ }
     ensures { λ _. ⌜ now (outgoing .exit) ≡ tabulate (λ e. byte (firstMessage (onColumns (now (columns .entry))) most (levelIn (now (levels .entry))) e)) (length (now (outgoing .entry))) ⌝ }
 {

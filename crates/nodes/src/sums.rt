@@ -2,12 +2,12 @@
 ghost use mathlib.Core.Path.{_≡_};
 ghost use mathlib.Core.List.{_++_};
 ghost use Prim.Native.Nat.{ℕ, _+_, _*_, _/_, _<_, _≤_};
-ghost use lib.ListN.{length, getD, drop};
+ghost use lib.ListN.{length, drop};
 ghost use lib.IntN.{pos, natAbs, _+ℤ_};
 ghost use Rattle.rules.specs.Ranges.{fold, one, tabulate};
 ghost use Rattle.rules.specs.Levels.{levelOf};
 ghost use Rattle.rules.specs.Nodes as Nodes;
-ghost use Rattle.words.specs.Roles.{columnAt, sumAt, sumTable};
+ghost use Rattle.words.specs.Roles.{wide, columnAt, degreeAt, sumAt, sumTable};
 ghost use Rattle.nodes.specs.Memory.{levelIn};
 ghost use Rattle.nodes.specs.Lists.{Parts, partIn, shareIn};
 
@@ -21,20 +21,24 @@ pub fn contribution(b: u8, e: u8) -> i32
 }
 
 // The channel's extra half, by the variable's degree.
-pub fn extra(d: u16) -> u8
+pub fn extra(d: usize) -> u8
     ensures { λ r. ⌜ r ≡ Nodes.extra d ⌝ }
 {
     if d == 2 { 0 } else { 2 - (d % 2) as u8 }
 }
 
 // Makes each sum the channel's part of it.
-pub fn channel_parts(levels: &[u8], degrees: &[u16], sums: &mut [u8])
-    requires { ⌜ (length (now sums) ≡ 4 * length (now levels)) × (length (now levels) ≤ length (now degrees)) ⌝ }
-    ensures { λ _. ⌜ now (sums .exit) ≡ sumTable (λ v. Nodes.contribution (Nodes.extra (getD (now (degrees .entry)) v 0)) (levelIn (now (levels .entry)) v)) (length (now (levels .entry))) ⌝ }
+pub fn channel_parts(levels: &[u8], degrees: &[u8], sums: &mut [u8])
+    requires { ⌜ (length (now sums) ≡ 4 * length (now levels)) × (length (now levels) ≤ length (now degrees) / 4) ⌝ }
+    ensures { λ _. ⌜ now (sums .exit) ≡ sumTable (λ v. Nodes.contribution (Nodes.extra (degreeAt (now (degrees .entry)) v)) (levelIn (now (levels .entry)) v)) (length (now (levels .entry))) ⌝ }
 {
     let mut v = 0;
     while v < levels.len() {
-        words::put_sum(sums, v, contribution(levels[v], extra(degrees[v])));
+        words::put_sum(
+            sums,
+            v,
+            contribution(levels[v], extra(words::degree(degrees, v))),
+        );
         v += 1;
     }
 }
@@ -54,7 +58,7 @@ pub fn contributions() -> [i32; 256]
 
 // Adds to the sum of each entry's variable the part of the entry's message, by a list of parts for all bytes.
 pub fn add_messages(columns: &[u8], messages: &[u8], parts: &[i32], sums: &mut [u8])
-    requires { ⌜ (length (now messages) ≡ length (now columns) / 2) × (length (now messages) ≤ 4000000) × Parts (now parts) ⌝ }
+    requires { ⌜ (length (now messages) ≡ length (now columns) / wide) × (length (now messages) ≤ 4000000) × Parts (now parts) ⌝ }
     requires { ⌜ ((e : ℕ) → e < length (now messages) → columnAt (now columns) e < length (now sums) / 4) ⌝ }
     requires { ⌜ ((v : ℕ) → v < length (now sums) / 4 → natAbs (sumAt (now sums) v) ≤ 1024) ⌝ }
     ensures { λ _. ⌜ now (sums .exit) ≡ sumTable (λ v. sumAt (now (sums .entry)) v +ℤ fold _+ℤ_ (pos 0) (shareIn (columnAt (now (columns .entry))) (partIn (now (parts .entry)) (now (messages .entry))) v) 0 (length (now (messages .entry)))) (length (now (sums .entry)) / 4) ++ drop (4 * (length (now (sums .entry)) / 4)) (now (sums .entry)) ⌝ }

@@ -6,7 +6,7 @@ ghost use lib.IntN.{pos, natAbs, _-ℤ_};
 ghost use Rattle.rules.specs.Ranges.{tabulate};
 ghost use Rattle.rules.specs.Levels.{byte, largest};
 ghost use Rattle.rules.specs.Nodes.{outgoingMagnitude, outgoing};
-ghost use Rattle.words.specs.Roles.{columnAt, sumAt};
+ghost use Rattle.words.specs.Roles.{wide, columnAt, sumAt};
 ghost use Rattle.nodes.specs.Lists.{Parts, placeOf, sentBy};
 ghost use Rattle.nodes.specs.Magnitudes.{offsets, outgoingBy};
 
@@ -118,7 +118,7 @@ pub fn variable_nodes(
     messages: &[u8],
     outgoing: &mut [u8],
 )
-    requires { ⌜ (length (now incoming) ≡ length (now columns) / 2) × (length (now outgoing) ≡ length (now incoming)) × Parts (now parts) × (length (now messages) ≡ 35) ⌝ }
+    requires { ⌜ (length (now incoming) ≡ length (now columns) / wide) × (length (now outgoing) ≡ length (now incoming)) × Parts (now parts) × (length (now messages) ≡ 35) ⌝ }
     requires { ⌜ ((e : ℕ) → e < length (now incoming) → columnAt (now columns) e < length (now sums) / 4) ⌝ }
     requires { ⌜ ((v : ℕ) → v < length (now sums) / 4 → natAbs (sumAt (now sums) v) < 2 ^ 30) ⌝ }
     ensures { λ _. ⌜ now (outgoing .exit) ≡ tabulate (sentBy (now (parts .entry)) (now (messages .entry)) (columnAt (now (columns .entry))) (now (sums .entry)) (now (incoming .entry))) (length (now (incoming .entry))) ⌝ }

@@ -5,7 +5,7 @@ use Prim.Native.Nat.{ℕ, zero, suc, _+_, _≤_, _<_}
 use native.Mathlib.Omega.{arith}
 use lib.ListN.{length, take, getD, set, length-append, length-map}
 use Rattle.rules.specs.Ranges.{one}
-use Rattle.rules.specs.Graphs.{limits}
+use Rattle.rules.specs.Graphs.{programLimits}
 use Rattle.rules.specs.Refusals.{paper}
 use Rattle.rules.specs.declared.Refusal.{Refusal}
 use Rattle.rules.specs.declared.Numbered.{Numbered}
@@ -91,7 +91,7 @@ module _ {bits old now : List ℕ} {at k : ℕ} (p : BitsPut bits old now at k) 
 pub bits-after : (bits : List ℕ) {old now : List ℕ} {at r : ℕ} → Put (map bitText bits) old now at r → r ≡ at + length bits
 bits-after bits p = omega (arith, p .after, length-map bits bitText)
 
-pub report-put : (r : Report) (bits : List ℕ) {old one′ two three now : List ℕ} {a b c n : ℕ} → length bits ≤ limits .variables → Prints 100 (verdictLines (r .verdict) (r .iterations) (r .unsatisfied)) old one′ a
+pub report-put : (r : Report) (bits : List ℕ) {old one′ two three now : List ℕ} {a b c n : ℕ} → length bits ≤ programLimits .variables → Prints 100 (verdictLines (r .verdict) (r .iterations) (r .unsatisfied)) old one′ a
     → Put bitsTitle one′ two a b → Put (map bitText bits) two three b c → Put (lf ∷ []) three now c n
     → Prints longest (reportText r bits) old now n
 unfolding reportText

@@ -3,7 +3,7 @@ use mathlib.Core.Bool.{cond}
 use mathlib.Core.List.{List, [], _∷_, _++_, map}
 use Prim.Native.Nat.{ℕ, _+_, _≤_}
 use lib.Dec.{eqb}
-use Rattle.rules.specs.Graphs.{limits}
+use Rattle.rules.specs.Graphs.{programLimits}
 use Rattle.rules.specs.Refusals.{paper}
 use Rattle.rules.specs.declared.Refusal.{Refusal}
 use Rattle.rules.specs.declared.Verdict.{Verdict}
@@ -47,7 +47,7 @@ refusalText r = refusalTitles ++ lineText (pair (paper r .number) (paper r .plac
 
 -- No text that is printed is longer: the bits, and at most 108 bytes beside them.
 abbrev pub longest : ℕ
-longest = limits .variables + 108
+longest = programLimits .variables + 108
 
 -- A text of at most so many bytes was put at the front: the place after it.
 pub record Prints (most : ℕ) (t old now : List ℕ) (r : ℕ) : Type 0 where

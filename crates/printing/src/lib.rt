@@ -3,7 +3,7 @@ ghost use mathlib.Core.Path.{_≡_};
 ghost use mathlib.Core.List.{[], _∷_, _++_, map};
 ghost use Prim.Native.Nat.{_+_, _≤_};
 ghost use lib.ListN.{length};
-ghost use Rattle.rules.specs.Graphs.{limits};
+ghost use Rattle.rules.specs.Graphs.{programLimits};
 ghost use Rattle.lines.specs.Lines.{space, pair, lineText};
 ghost use Rattle.lines.specs.Putting.{Put};
 ghost use Rattle.printing.specs.Texts.{refusalTitles, verdictText, verdictLines, bitText, reportText, refusalText, longest, Prints};
@@ -12,7 +12,7 @@ use rules::Report;
 use rules::Verdict;
 
 // Bytes that hold every text: `longest` of specs/Texts.
-pub const LONGEST: usize = rules::MOST_VARIABLES + 108;
+pub const LONGEST: usize = rules::PROGRAM_VARIABLES + 108;
 
 // Puts a refusal's number and place, after their titles.
 fn put_refused(out: &mut [u8], number: usize, place: usize) -> usize
@@ -77,7 +77,7 @@ fn put_bits(out: &mut [u8], at: usize, bits: &[u8]) -> usize
 
 // Puts the report of a run and its bits.
 pub fn put_report(out: &mut [u8], r: Report, bits: &[u8]) -> usize
-    requires { ⌜ (longest ≤ length (now out)) × (length (now bits) ≤ limits .variables) ⌝ }
+    requires { ⌜ (longest ≤ length (now out)) × (length (now bits) ≤ programLimits .variables) ⌝ }
     ensures { λ n. ⌜ Prints longest (reportText r (now (bits .entry))) (now (out .entry)) (now (out .exit)) n ⌝ }
 {
     let v = r.verdict;

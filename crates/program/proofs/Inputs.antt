@@ -6,7 +6,8 @@ use native.Mathlib.Omega.{arith}
 use borrow.Author.Tests.{le-leb, lt-leb}
 use lib.ListN.{length, take, drop}
 use lib.Seq.{take-at}
-use Rattle.rules.specs.Graphs.{Graph, limits, Admitted}
+use Rattle.words.specs.Roles.{wide}
+use Rattle.rules.specs.Graphs.{Graph, programLimits}
 use Rattle.rules.specs.declared.Refusal.{Refusal}
 use Rattle.rules.specs.declared.Refusal.the-variants as Refusals
 use Rattle.words.specs.Words.{table}
@@ -18,6 +19,7 @@ use Rattle.sheet.specs.declared.Sheet.the-variants as Sheets
 use Rattle.sheet.specs.Reading as Sheet
 use Rattle.sheet.specs.Reading.{Reading, sheetRead}
 use Rattle.sheet.proofs.Texts.{texts-and-graphs}
+use Rattle.sheet.proofs.Calls as Calls
 use Rattle.channel.specs.declared.Parameters.{Parameters}
 use Rattle.decoder.specs.Frames.{frame}
 use Rattle.run_text.specs.declared.Run.{Run}
@@ -53,20 +55,20 @@ module _ (n : ℕ) (s starts columns : List ℕ) {r : Run} {old now : List ℕ} 
 
 -- the counts and the lists of the graph that was read
 pub record GraphIn (t : List ℕ) (k : Counts) (starts columns : List ℕ) : Type 0 where
-  pub variables : k .variables ≤ limits .variables
-  pub checks : k .checks ≤ limits .checks
-  pub entries : k .entries ≤ limits .entries
-  pub text : (run : List ℕ) → afterRun (k .variables) (take (2 * (k .checks + 1)) starts) (take (2 * k .entries) columns) (runText (k .variables) run)
+  pub variables : k .variables ≤ programLimits .variables
+  pub checks : k .checks ≤ programLimits .checks
+  pub entries : k .entries ≤ programLimits .entries
+  pub text : (run : List ℕ) → afterRun (k .variables) (take (wide * (k .checks + 1)) starts) (take (wide * k .entries) columns) (runText (k .variables) run)
       ≡ afterSheet (sheetGiven t) run
 
 graph-in : (t : List ℕ) (G : Graph) (st co : List ℕ) → sheetGiven t ≡ Sheet.graph G
     → GraphIn t (record { variables = G .variables; checks = G .checks; entries = G .entries }) (Sheet.startsOf (Sheet.graph G) st) (Sheet.columnsOf (Sheet.graph G) co)
 graph-in t G st co e =
-    let a : Admitted G = texts-and-graphs .accepted limits t (2 * suc (limits .checks)) (2 * limits .entries) G e .0 in
-    let s : take (2 * (G .checks + 1)) (table 2 (G .start) (suc (G .checks)) ++ drop (2 * suc (G .checks)) st) ≡ table 2 (G .start) (suc (G .checks))
-    = take-at (table 2 (G .start) (suc (G .checks))) (drop (2 * suc (G .checks)) st) (2 * (G .checks + 1)) (length-table 2 (G .start) (suc (G .checks)) ∙ omega arith) in
-    let c : take (2 * G .entries) (table 2 (G .column) (G .entries) ++ drop (2 * G .entries) co) ≡ table 2 (G .column) (G .entries)
-    = take-at (table 2 (G .column) (G .entries)) (drop (2 * G .entries) co) (2 * G .entries) (length-table 2 (G .column) (G .entries)) in
+    let a = texts-and-graphs .accepted programLimits t (wide * suc (programLimits .checks)) (wide * programLimits .entries) G e .0 in
+    let s : take (wide * (G .checks + 1)) (table wide (G .start) (suc (G .checks)) ++ drop (wide * suc (G .checks)) st) ≡ table wide (G .start) (suc (G .checks))
+    = take-at (table wide (G .start) (suc (G .checks))) (drop (wide * suc (G .checks)) st) (wide * (G .checks + 1)) (length-table wide (G .start) (suc (G .checks)) ∙ omega arith) in
+    let c : take (wide * G .entries) (table wide (G .column) (G .entries) ++ drop (wide * G .entries) co) ≡ table wide (G .column) (G .entries)
+    = take-at (table wide (G .column) (G .entries)) (drop (wide * G .entries) co) (wide * G .entries) (length-table wide (G .column) (G .entries)) in
     record {
       variables = a .variables .1;
       checks = a .checks .1;
@@ -76,10 +78,10 @@ graph-in t G st co e =
           ∙ sym (ap (λ (x : Reading). afterSheet x run) e);
     }
 
-module _ (t : List ℕ) {r : Sheet} {st st′ co co′ : List ℕ} (w : Sheet.ReadAs (sheetRead limits t (length st) (length co)) r st st′ co co′)
-    (ls : length st ≡ 2 * suc (limits .checks)) (lc : length co ≡ 2 * limits .entries) where
+module _ (t : List ℕ) {r : Sheet} {d d′ st st′ co co′ : List ℕ} (w : Sheet.ReadInto programLimits t r d d′ st st′ co co′)
+    (ld : length d ≡ 4 * programLimits .variables) (ls : length st ≡ wide * suc (programLimits .checks)) (lc : length co ≡ wide * programLimits .entries) where
   read-as : Sheet.ReadAs (sheetGiven t) r st st′ co co′
-  read-as = subst (λ (x : Reading). Sheet.ReadAs x r st st′ co co′) (ap₂ (sheetRead limits t) ls lc) w
+  read-as = subst (λ (x : Reading). Sheet.ReadAs x r st st′ co co′) (ap₂ (sheetRead programLimits t) ls lc) (Calls.read-as {L = programLimits} {t = t} (omega arith) w)
 
   pub sheet-refused : {x : Refusal} → r ≡ Sheets.Refused x → (run : List ℕ) → refusalText x ≡ afterSheet (sheetGiven t) run
   sheet-refused {x} e run = go (sheetGiven t) (sym (read-as .answer) ∙ e)

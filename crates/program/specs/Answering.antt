@@ -5,8 +5,9 @@ use mathlib.Core.List.{List, [], _++_, map}
 use Prim.Native.Nat.{ℕ, suc, _*_}
 use lib.Dec.{leb}
 use lib.ListN.{length, drop}
+use Rattle.words.specs.Roles.{wide}
 use Rattle.rules.specs.Ranges.{one}
-use Rattle.rules.specs.Graphs.{limits}
+use Rattle.rules.specs.Graphs.{programLimits}
 use Rattle.rules.specs.Sequence.{final, report}
 use Rattle.rules.specs.declared.Refusal.the-variants.{Count, RunText}
 use Rattle.rules.specs.declared.Judged.{Judged}
@@ -33,15 +34,15 @@ abbrev pub afterRun : ℕ → List ℕ → List ℕ → Run.RunText → List ℕ
 afterRun n starts columns (Run.refused l) = refusalText (RunText l)
 afterRun n starts columns (Run.read asked values) = frameText (frame n starts columns values asked)
 
--- 'The sheet's.' The graph's lists are m + 1 starts and E columns, two bytes each.
+-- 'The sheet's.' The graph's lists are m + 1 starts and E columns, `wide` bytes each.
 abbrev pub afterSheet : Sheet.Reading → List ℕ → List ℕ
 afterSheet (Sheet.turned r) run = refusalText r
 afterSheet (Sheet.graph G) run =
-    afterRun (G .variables) (table 2 (G .start) (suc (G .checks))) (table 2 (G .column) (G .entries)) (runText (G .variables) run)
+    afterRun (G .variables) (table wide (G .start) (suc (G .checks))) (table wide (G .column) (G .entries)) (runText (G .variables) run)
 
 -- What the sheet gives, into lists that hold those of every admitted graph.
 abbrev pub sheetGiven : List ℕ → Sheet.Reading
-sheetGiven sheet = sheetRead limits sheet (2 * suc (limits .checks)) (2 * limits .entries)
+sheetGiven sheet = sheetRead programLimits sheet (wide * suc (programLimits .checks)) (wide * programLimits .entries)
 
 -- '2 for an oversized file.'
 unfoldable pub programText : List ℕ → List ℕ → List ℕ

@@ -1,7 +1,8 @@
 // The program's whole answer, as a function of the bytes of the sheet and of the run text.
 ghost use Prim.Native.Nat.{_/_, _≤_};
 ghost use lib.ListN.{length};
-ghost use Rattle.rules.specs.Graphs.{limits};
+ghost use Rattle.words.specs.Roles.{wide};
+ghost use Rattle.rules.specs.Graphs.{programLimits};
 ghost use Rattle.decoder.specs.Frames.{frame};
 ghost use Rattle.run_text.specs.Reading.{runText};
 ghost use Rattle.printing.specs.Texts.{longest, Prints};
@@ -13,6 +14,7 @@ use printing::put_report;
 use rules::Refusal;
 use run_text::Run;
 use sheet::Sheet;
+use sheet_text::Counts;
 
 // Decodes, and puts what comes of it.
 fn decode_answer(
@@ -23,14 +25,14 @@ fn decode_answer(
     asked: Parameters,
     out: &mut [u8],
 ) -> usize
-    requires { ⌜ (n ≤ limits .variables) × (length (now columns) / 2 ≤ limits .entries) × (longest ≤ length (now out)) ⌝ }
+    requires { ⌜ (n ≤ programLimits .variables) × (length (now columns) / wide ≤ programLimits .entries) × (longest ≤ length (now out)) ⌝ }
     ensures { λ r. ⌜ Prints longest (frameText (frame n (now (starts .entry)) (now (columns .entry)) (now (values .entry)) asked)) (now (out .entry)) (now (out .exit)) r ⌝ }
 {
-    let mut levels = [0u8; rules::MOST_VARIABLES];
-    let mut variable_messages = [0u8; rules::MOST_ENTRIES];
-    let mut check_messages = [0u8; rules::MOST_ENTRIES];
-    let mut sums = [0u8; 4 * rules::MOST_VARIABLES];
-    let mut bits = [0u8; rules::MOST_VARIABLES];
+    let mut levels = [0u8; rules::PROGRAM_VARIABLES];
+    let mut variable_messages = [0u8; rules::PROGRAM_ENTRIES];
+    let mut check_messages = [0u8; rules::PROGRAM_ENTRIES];
+    let mut sums = [0u8; 4 * rules::PROGRAM_VARIABLES];
+    let mut bits = [0u8; rules::PROGRAM_VARIABLES];
     let d = decoder::decode(
         n,
         starts,
@@ -51,10 +53,10 @@ fn decode_answer(
 
 // Reads the run text, and goes on to decode.
 fn run_answer(n: usize, starts: &[u8], columns: &[u8], run: &[u8], out: &mut [u8]) -> usize
-    requires { ⌜ (n ≤ limits .variables) × (length (now columns) / 2 ≤ limits .entries) × (longest ≤ length (now out)) ⌝ }
+    requires { ⌜ (n ≤ programLimits .variables) × (length (now columns) / wide ≤ programLimits .entries) × (longest ≤ length (now out)) ⌝ }
     ensures { λ r. ⌜ Prints longest (afterRun n (now (starts .entry)) (now (columns .entry)) (runText n (now (run .entry)))) (now (out .entry)) (now (out .exit)) r ⌝ }
 {
-    let mut values = [0u8; 4 * rules::MOST_VARIABLES];
+    let mut values = [0u8; 4 * rules::PROGRAM_VARIABLES];
     let x = run_text::read(n, run, &mut values);
     match x {
         Run::Refused(l) => put_refusal(out, Refusal::RunText(l)),
@@ -70,14 +72,20 @@ fn sheet_answer(sheet: &[u8], run: &[u8], out: &mut [u8]) -> usize
     requires { ⌜ longest ≤ length (now out) ⌝ }
     ensures { λ r. ⌜ Prints longest (afterSheet (sheetGiven (now (sheet .entry))) (now (run .entry))) (now (out .entry)) (now (out .exit)) r ⌝ }
 {
-    let mut starts = [0u8; 2 * (rules::MOST_CHECKS + 1)];
-    let mut columns = [0u8; 2 * rules::MOST_ENTRIES];
-    let x = sheet::read(sheet, &mut starts, &mut columns);
+    let mut starts = [0u8; words::WIDE * (rules::PROGRAM_CHECKS + 1)];
+    let mut columns = [0u8; words::WIDE * rules::PROGRAM_ENTRIES];
+    let mut degrees = [0u8; 4 * rules::PROGRAM_VARIABLES];
+    let most = Counts {
+        variables: rules::PROGRAM_VARIABLES,
+        checks: rules::PROGRAM_CHECKS,
+        entries: rules::PROGRAM_ENTRIES,
+    };
+    let x = sheet::read_within(most, sheet, &mut degrees, &mut starts, &mut columns);
     match x {
         Sheet::Refused(r) => put_refusal(out, r),
         Sheet::Read(counts) => {
-            let s = 2 * (counts.checks + 1);
-            let c = 2 * counts.entries;
+            let s = words::WIDE * (counts.checks + 1);
+            let c = words::WIDE * counts.entries;
             run_answer(counts.variables, &starts[..s], &columns[..c], run, out)
         }
     }

@@ -37,6 +37,10 @@ pub record Limits : Type 0 where
 abbrev pub limits : Limits
 limits = record { variables = 8192; checks = 8192; entries = 32768; checkDegree = 64; variableDegree = 32 }
 
+-- The limits of the program's sheets.
+abbrev pub programLimits : Limits
+programLimits = record { variables = 8192; checks = 8192; entries = 32768; checkDegree = 64; variableDegree = 32 }
+
 -- The least numbers, which are the same under any limits.
 abbrev pub fewestVariables : ℕ
 fewestVariables = 2

@@ -21,6 +21,13 @@ pub const LEAST_VARIABLE_DEGREE: usize = 1;
 
 pub const LARGEST_VARIABLE_DEGREE: usize = 32;
 
+// The limits of the program's sheets: `programLimits`.
+pub const PROGRAM_VARIABLES: usize = 8192;
+
+pub const PROGRAM_CHECKS: usize = 8192;
+
+pub const PROGRAM_ENTRIES: usize = 32768;
+
 // Why a call turns its input down. A number is the refusal's place.
 pub enum Refusal {
     Form(usize),

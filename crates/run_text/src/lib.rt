@@ -3,7 +3,7 @@ ghost use mathlib.Core.Path.{_≡_};
 ghost use mathlib.Core.List.{[]};
 ghost use Prim.Native.Nat.{_*_, _≤_};
 ghost use lib.ListN.{length, drop};
-ghost use Rattle.rules.specs.Graphs.{limits};
+ghost use Rattle.rules.specs.Graphs.{programLimits};
 ghost use Rattle.run_text.specs.Texts.{hexDigit, hexDigits, pattern, setting, settings, scaling, titles, settingsLine};
 ghost use Rattle.run_text.specs.Reading.{valueLines, runText, ReadAs};
 ghost use Rattle.run_text.specs.Places.{WordAt, TripleAt, ScaleAt, TitlesAt, LineAt, AboveAt, ValuesAs};
@@ -293,7 +293,7 @@ fn lines_above(text: &[u8]) -> Above
 
 // The lines of n values, from a place on, into `values`.
 fn values_at(text: &[u8], from: usize, n: usize, values: &mut [u8]) -> Values
-    requires { ⌜ (from ≤ length (now text)) × (n ≤ limits .variables) × (4 * n ≤ length (now values)) ⌝ }
+    requires { ⌜ (from ≤ length (now text)) × (n ≤ programLimits .variables) × (4 * n ≤ length (now values)) ⌝ }
     ensures { λ r. ⌜ ValuesAs (λ g. valueLines g n 4 [] (drop from (now (text .entry)))) n (now (values .entry)) (now (values .exit)) r ⌝ }
 {
     let mut at = from;
@@ -318,7 +318,7 @@ pub const LARGEST_INPUT: usize = 65536;
 
 // The run text for n values: the settings, with the values in memory, or the line that is refused and the memory as it was.
 pub fn read(n: usize, text: &[u8], values: &mut [u8]) -> Run
-    requires { ⌜ (n ≤ limits .variables) × (4 * n ≤ length (now values)) ⌝ }
+    requires { ⌜ (n ≤ programLimits .variables) × (4 * n ≤ length (now values)) ⌝ }
     ensures { λ r. ⌜ ReadAs (runText n (now (text .entry))) r (now (values .entry)) (now (values .exit)) ⌝ }
 {
     if LARGEST_INPUT < text.len() {
@@ -330,7 +330,7 @@ pub fn read(n: usize, text: &[u8], values: &mut [u8]) -> Run
             return Run::Refused(l);
         }
         Above::Of(asked, at) => {
-            let mut own = [0u8; 4 * rules::MOST_VARIABLES];
+            let mut own = [0u8; 4 * rules::PROGRAM_VARIABLES];
             let judged = values_at(text, at, n, &mut own);
             if let Values::Refused(l) = judged {
                 return Run::Refused(l);

@@ -19,7 +19,7 @@ use Rattle.sheet_text.proofs.Sheets.{Lined, counts-told}
 use Rattle.sheet_text.proofs.Entries.{start-zero, start-end, column-within, column-rise}
 use Rattle.sheet.specs.Theorems.{Same}
 
-each-same : (j k : ℕ → Judged) (n : ℕ) → ((i : ℕ) → i < n → j i ≡ k i) → each j n ≡ each k n
+pub each-same : (j k : ℕ → Judged) (n : ℕ) → ((i : ℕ) → i < n → j i ≡ k i) → each j n ≡ each k n
 unfolding each
 each-same j k n h = fold-ext orElse Judgement.Admitted j k 0 n (λ i _ l. h i (omega arith))
 

@@ -1,6 +1,9 @@
 pub mod Answers
 pub mod Degrees
 pub mod Texts
-pub mod Lists
+pub mod Passing
 pub mod Storing
+pub mod Checks
+pub mod Counting
 pub mod Ways
+pub mod Calls

@@ -4,6 +4,7 @@ use mathlib.Core.List.{List}
 use Prim.Native.Nat.{ℕ, suc, _+_, _*_, _≤_, _<_}
 use native.Mathlib.Omega.{arith}
 use borrow.Author.Tests.{le-leb}
+use Rattle.words.specs.Roles.{wide}
 use Rattle.rules.specs.Ranges.{joined, tabulate}
 use Rattle.rules.specs.Graphs.{Graph, Limits, AdmittedWithin, checkDegree}
 use Rattle.rules.specs.Refusals.{unless}
@@ -70,7 +71,7 @@ module _ (L : Limits) (G : Graph) (a : AdmittedWithin L G) where
     columns = columns-back G (rowed a);
   }
 
-  back : (s c : ℕ) → 2 * suc (G .checks) ≤ s → 2 * G .entries ≤ c → (H : Graph) × (sheetRead L (sheetText G) s c ≡ graph H) × Same H G
+  back : (s c : ℕ) → wide * suc (G .checks) ≤ s → wide * G .entries ≤ c → (H : Graph) × (sheetRead L (sheetText G) s c ≡ graph H) × Same H G
   unfolding sheetRead
   back s c hs hc =
       let H : Graph = graphIn counts (entriesOf G) in (
@@ -79,8 +80,8 @@ module _ (L : Limits) (G : Graph) (a : AdmittedWithin L G) where
           lines-back,
           same-check-degrees L H G same-back ∙ check-degrees-admitted L G (a .checkDegrees),
           same-variable-degrees L H G same-back ∙ variable-degrees-admitted L G (a .variableDegrees),
-          le-leb (2 * suc (G .checks)) s hs,
-          le-leb (2 * H .entries) c (omega (arith, same-back .entries)),
+          le-leb (wide * suc (G .checks)) s hs,
+          le-leb (wide * H .entries) c (omega (arith, same-back .entries)),
         ),
         same-back,
       )

@@ -1,102 +1,123 @@
--- Each way out of reading a sheet gives what the definition says of the answer and of both lists.
-use mathlib.Core.Path.{_≡_, refl, sym, ap, _∙_, subst}
+-- Each way out after the last line gives what the definition says of the answer and of the lists.
+use mathlib.Core.Path.{_≡_, refl, sym, ap, ap₂, _∙_}
 use mathlib.Core.Bool.{Bool, false, true, _&&_}
 use mathlib.Core.List.{List}
-use Prim.Native.Nat.{ℕ, suc, _*_, _≤_, _<_}
+use Prim.Native.Nat.{ℕ, suc, _+_, _*_, _/_, _≤_, _<_}
+use native.Mathlib.Omega.{arith}
 use borrow.Author.Tests.{le-leb, lt-leb, leb-true}
-use lib.Dec.{leb}
-use lib.ListN.{length}
-use Rattle.rules.specs.Graphs.{Graph, Limits}
+use lib.Dec.{eqb, leb}
+use lib.ListN.{length, drop}
+use Rattle.rules.specs.Graphs.{Graph, limits, leastVariableDegree, variableDegree}
 use Rattle.rules.specs.Refusals.{unless}
 use Rattle.rules.specs.declared.Refusal.{Refusal}
-use Rattle.rules.specs.declared.Refusal.the-variants.{Buffer}
+use Rattle.rules.specs.declared.Refusal.the-variants.{Buffer, Degree}
 use Rattle.rules.specs.declared.Judged.{Judged}
 use Rattle.rules.specs.declared.Judged.the-variants as Judgement
+use Rattle.rules.proofs.Ranges.{count-le}
 use Rattle.rules.proofs.Judging.{orElse-right, unless-true, and-left, and-right}
-use Rattle.sheet_text.specs.Reading.{Lines, refused, sheetLines, graphIn}
-use Rattle.sheet_text.specs.Scanning.{counted, LinesAt}
+use Rattle.words.specs.Words.{word}
+use Rattle.words.specs.Roles.{wide, degreeAt}
+use Rattle.words.proofs.Words.{at-table}
+use Rattle.graph.specs.Judging.{between, variableDegreesJudged}
+use Rattle.sheet_text.specs.Reading.{Lines}
 use Rattle.sheet_text.specs.declared.Counts.{Counts}
-use Rattle.sheet.specs.Reading.{Reading, turned, graph, roomFor, degreesJudged, afterLines, unlessRefused, readLines, sheetRead, readJudged, ReadAs}
-use Rattle.sheet.specs.Storing.{linesGraph, Stores}
+use Rattle.sheet.specs.Reading.{graph, roomFor, roomForDegrees, degreesJudged, afterLines, degreesIn, answerOf}
+use Rattle.sheet.specs.Storing.{linesGraph, graphFrom, EntriesAt, Stores, CountedInto, variablesJudged, AfterLines, Finished}
 use Rattle.sheet.specs.declared.Sheet.the-variants as Answer
-
--- ---- what is refused after the last line
+use Rattle.sheet.proofs.Degrees.{each-same}
 
 and-no : (a : Bool) → a && false ≡ false
 and-no true = refl
 and-no false = refl
 
-module _ (L : Limits) (G : Graph) (s c : ℕ) where
-  pub degrees-refused : {r : Refusal} → degreesJudged L G ≡ Judgement.Refused r → afterLines L G s c ≡ Judgement.Refused r
-  degrees-refused e = rw e
-
-  module _ (d : degreesJudged L G ≡ Judgement.Admitted) where
-    pub starts-short : s < 2 * suc (G .checks) → afterLines L G s c ≡ Judgement.Refused Buffer
-    starts-short l = rw (d, lt-leb (2 * suc (G .checks)) s l)
-
-    pub columns-short : c < 2 * G .entries → afterLines L G s c ≡ Judgement.Refused Buffer
-    columns-short l = rw (d, lt-leb (2 * G .entries) c l, and-no (leb (2 * suc (G .checks)) s))
-
-    pub long-enough : 2 * suc (G .checks) ≤ s → 2 * G .entries ≤ c → afterLines L G s c ≡ Judgement.Admitted
-    long-enough ls lc = rw (d, le-leb (2 * suc (G .checks)) s ls, le-leb (2 * G .entries) c lc)
-
-  pub room-told : afterLines L G s c ≡ Judgement.Admitted → (2 * suc (G .checks) ≤ s) × (2 * G .entries ≤ c)
-  room-told h =
-      let a = leb (2 * suc (G .checks)) s in
-      let b = leb (2 * G .entries) c in
-      let room = unless-true (roomFor G s c) Buffer (orElse-right (degreesJudged L G) (unless (roomFor G s c) Buffer) h) in
-      (leb-true (2 * suc (G .checks)) s (and-left a b room), leb-true (2 * G .entries) c (and-right a b room))
-
--- ---- the answer, and both lists
-
--- a refusal changes nothing
-turned-read : {x : Reading} {r : Refusal} {st co : List ℕ} → x ≡ turned r → ReadAs x (Answer.Refused r) st st co co
-turned-read e = rw e (record { answer = refl; starts = refl; columns = refl })
-
-module _ (L : Limits) (t : List ℕ) {r : Refusal} (e : sheetLines L t ≡ refused r) where
-  turned-lines : (s c : ℕ) → sheetRead L t s c ≡ turned r
-  unfolding sheetRead
-  turned-lines s c = ap (λ (x : Lines). readLines L x s c) e
-
-  pub lines-refused : (st co : List ℕ) → ReadAs (sheetRead L t (length st) (length co)) (Answer.Refused r) st st co co
-  lines-refused st co = turned-read (turned-lines (length st) (length co))
-
-  pub lines-judged : (s c : ℕ) → readJudged (sheetRead L t s c) ≡ Judgement.Refused r
-  lines-judged s c = ap readJudged (turned-lines s c)
-
-judged-back : (j : Judged) (G : Graph) → readJudged (unlessRefused j G) ≡ j
-judged-back Judgement.Admitted G = refl
-judged-back (Judgement.Refused r) G = refl
-
-module _ {L : Limits} (t : List ℕ) (k : Counts) (at : ℕ) (h : LinesAt L t (sheetLines L t) k at) where
+module _ {t : List ℕ} {k : Counts} {at : ℕ} (h : EntriesAt t k at) where
   abbrev G : Graph
-  G = linesGraph (sheetLines L t)
+  G = graphFrom t k at
 
   -- the counts of the graph, as the code has them
-  pub counts-are : (G .checks ≡ k .checks) × (G .entries ≡ k .entries)
-  counts-are = (ap (λ (x : Lines). linesGraph x .checks) (h .are), ap (λ (x : Lines). linesGraph x .entries) (h .are) ∙ h .many)
+  pub counts-are : (G .variables ≡ k .variables) × (G .checks ≡ k .checks) × (G .entries ≡ k .entries)
+  counts-are = (
+    ap (λ (x : Lines). linesGraph x .variables) (h .are),
+    ap (λ (x : Lines). linesGraph x .checks) (h .are),
+    ap (λ (x : Lines). linesGraph x .entries) (h .are) ∙ h .many,
+  )
 
-  module _ (s c : ℕ) where
-    reading : sheetRead L t s c ≡ unlessRefused (afterLines L G s c) G
-    unfolding sheetRead
-    reading = rw (h .are)
+  -- ---- what is refused after the last line
 
-    pub after-judged : readJudged (sheetRead L t s c) ≡ afterLines L G s c
-    after-judged = ap readJudged reading ∙ judged-back (afterLines L G s c) G
+  -- the list of degrees is too short
+  pub degrees-short : {d : List ℕ} {s c : ℕ} → length d / 4 < k .variables → AfterLines G (Judgement.Refused Buffer) d d s c
+  degrees-short {d} l =
+      let no = lt-leb (4 * G .variables) (length d) (omega (arith, counts-are)) in
+      record { judged = rw no; degrees = rw no }
 
-  module _ (st co : List ℕ) where
-    pub after-refused : {r : Refusal} → afterLines L G (length st) (length co) ≡ Judgement.Refused r
-        → ReadAs (sheetRead L t (length st) (length co)) (Answer.Refused r) st st co co
-    after-refused e = turned-read (reading (length st) (length co) ∙ ap (λ (j : Judged). unlessRefused j G) e)
+  module _ {d d′ : List ℕ} (room : k .variables ≤ length d / 4) {j : Judged} (q : CountedInto G j d d′) where
+    fit : roomForDegrees G (length d) ≡ true
+    fit = le-leb (4 * G .variables) (length d) (omega (arith, counts-are))
 
-    pub all-stored : afterLines L G (length st) (length co) ≡ Judgement.Admitted → {st′ co′ : List ℕ} → Stores G st st′ co co′
-        → ReadAs (sheetRead L t (length st) (length co)) (Answer.Read k) st st′ co co′
-    all-stored e {st′} {co′} m =
-        let whole : sheetRead L t (length st) (length co) ≡ graph (graphIn (counted k) (h .entries)) =
-        reading (length st) (length co) ∙ ap (λ (j : Judged). unlessRefused j G) e ∙ ap (λ (x : Lines). graph (linesGraph x)) (h .are) in
-        let held = subst (λ (x : Lines). Stores (linesGraph x) st st′ co co′) (h .are) m in
-        rw whole (record {
-          answer = ap (λ (e : ℕ). Answer.Read (record { variables = k .variables; checks = k .checks; entries = e })) (sym (h .many));
-          starts = held .starts;
-          columns = held .columns;
-        })
+    held : d′ ≡ degreesIn G d
+    held = q .degrees ∙ sym (rw fit)
+
+    pub checks-refused : {s c : ℕ} {r : Refusal} → j ≡ Judgement.Refused r → AfterLines G (Judgement.Refused r) d d′ s c
+    checks-refused e = record { judged = rw (fit, sym (q .judged) ∙ e); degrees = held }
+
+    -- the variables' degrees, off the list
+    degree-at : (v : ℕ) → v < k .variables → degreeAt d′ v ≡ variableDegree G v
+    unfolding variableDegree
+    degree-at v l =
+        ap (λ (b : List ℕ). word 4 b (4 * v)) (q .degrees)
+        ∙ at-table 4 (variableDegree G) (G .variables) (drop (4 * G .variables) d) v (omega (arith, counts-are))
+        (omega (arith, counts-are, h .small .entries, count-le (λ e. eqb (G .column e) v) 0 (G .entries)))
+
+    variables-are : variablesJudged (k .checks) (degreeAt d′) (k .variables) ≡ variableDegreesJudged limits G
+    unfolding variableDegreesJudged
+    variables-are =
+        each-same (λ v. unless (between leastVariableDegree (degreeAt d′ v) (limits .variableDegree)) (Degree (k .checks + v)))
+        (λ v. unless (between leastVariableDegree (variableDegree G v) (limits .variableDegree)) (Degree (G .checks + v))) (k .variables)
+        (λ v l. ap₂ (λ (x m : ℕ). unless (between leastVariableDegree x (limits .variableDegree)) (Degree (m + v))) (degree-at v l) (sym (counts-are .1)))
+        ∙ ap (variablesJudged (G .checks) (variableDegree G)) (sym (counts-are .0))
+
+    module _ (a : j ≡ Judgement.Admitted) {i : Judged} (v : i ≡ variablesJudged (k .checks) (degreeAt d′) (k .variables)) where
+      degrees-are : degreesJudged limits G ≡ i
+      degrees-are = rw (sym (q .judged) ∙ a) (sym (v ∙ variables-are))
+
+      pub variables-refused : {s c : ℕ} {r : Refusal} → i ≡ Judgement.Refused r → AfterLines G (Judgement.Refused r) d d′ s c
+      variables-refused e = record { judged = rw (fit, degrees-are ∙ e); degrees = held }
+
+      module _ (e : i ≡ Judgement.Admitted) where
+        pub starts-short : {s c : ℕ} → s / wide ≤ k .checks → AfterLines G (Judgement.Refused Buffer) d d′ s c
+        starts-short {s} {c} l = record { judged = rw (fit, degrees-are ∙ e, lt-leb (wide * suc (G .checks)) s (omega (arith, counts-are))); degrees = held }
+
+        pub columns-short : {s c : ℕ} → c / wide < k .entries → AfterLines G (Judgement.Refused Buffer) d d′ s c
+        columns-short {s} {c} l = record {
+          judged = rw (fit, degrees-are ∙ e, lt-leb (wide * G .entries) c (omega (arith, counts-are)), and-no (leb (wide * suc (G .checks)) s));
+          degrees = held;
+        }
+
+        pub long-enough : {s c : ℕ} → k .checks < s / wide → k .entries ≤ c / wide → AfterLines G Judgement.Admitted d d′ s c
+        long-enough {s} {c} ls lc = record {
+          judged = rw (fit, degrees-are ∙ e, le-leb (wide * suc (G .checks)) s (omega (arith, counts-are)), le-leb (wide * G .entries) c (omega (arith, counts-are)));
+          degrees = held;
+        }
+
+  -- ---- the answer, and the lists
+
+  module _ {d d′ : List ℕ} (st co : List ℕ) {j : Judged} (q : AfterLines G j d d′ (length st) (length co)) where
+    pub finished-refused : {r : Refusal} → j ≡ Judgement.Refused r → Finished G (Answer.Refused r) d d′ st st co co
+    finished-refused e = record { read = rw (sym (q .judged) ∙ e) (record { answer = refl; starts = refl; columns = refl }); degrees = q .degrees }
+
+    module _ (e : j ≡ Judgement.Admitted) where
+      pub room-told : (wide * suc (k .checks) ≤ length st) × (wide * k .entries ≤ length co)
+      room-told =
+          let a = leb (wide * suc (G .checks)) (length st) in
+          let b = leb (wide * G .entries) (length co) in
+          let lists = orElse-right (unless (roomForDegrees G (length d)) Buffer) (afterLines limits G (length st) (length co)) (sym (q .judged) ∙ e) in
+          let room = unless-true (roomFor G (length st) (length co)) Buffer (orElse-right (degreesJudged limits G) (unless (roomFor G (length st) (length co)) Buffer) lists) in (
+            omega (arith, counts-are, leb-true (wide * suc (G .checks)) (length st) (and-left a b room)),
+            omega (arith, counts-are, leb-true (wide * G .entries) (length co) (and-right a b room)),
+          )
+
+      pub finished-all : {st′ co′ : List ℕ} → Stores G st st′ co co′ → Finished G (Answer.Read k) d d′ st st′ co co′
+      finished-all m = record { read = rw (sym (q .judged) ∙ e) (record { answer = answer; starts = m .starts; columns = m .columns }); degrees = q .degrees }
+        where
+          answer : Answer.Read k ≡ answerOf (graph G)
+          answer = rw (h .are, h .many)

@@ -9,7 +9,8 @@ use Rattle.rules.specs.Graphs.{limits}
 use Rattle.rules.specs.Refusals.{paper}
 use Rattle.lines.specs.Quoted.{ascii}
 use Rattle.sheet_text.specs.Texts.{heading, titles, sheetText}
-use Rattle.sheet.specs.Reading.{Reading, turned, graph, sheetRead}
+use Rattle.sheet_text.specs.Reading.{sheetLines}
+use Rattle.sheet.specs.Reading.{Reading, turned, graph, sheetRead, sheetReadIn, degreesOf}
 
 -- A sheet with this line of counts and these lines of entries.
 abbrev pub sheet : String → String → List ℕ
@@ -20,6 +21,14 @@ pub data Trial : Type 0 where
   reads : List ℕ → ℕ → ℕ → ℕ → ℕ → List ℕ → List ℕ → Trial
   -- the refusal's number and place
   refuses : List ℕ → ℕ → ℕ → ℕ → ℕ → Trial
+  -- the same, where so many bytes are lent for the list of degrees too
+  refusesIn : List ℕ → ℕ → ℕ → ℕ → ℕ → ℕ → Trial
+  -- the list of degrees before and after
+  counts : List ℕ → List ℕ → List ℕ → Trial
+
+-- Bytes that no degree has left.
+abbrev pub sevens : ℕ → List ℕ
+sevens k = tabulate (λ _. 7) k
 
 unfoldable pub trials : List Trial
 trials =
@@ -59,6 +68,15 @@ trials =
     ∷ refuses (sheet "3 2\n" "0 0\n0 1\n1 0\n1 1\n") 6 8 5 4
     ∷ refuses (sheet "3 2\n" "0 0\n0 1\n1 1\n1 2\n") 5 8 6 0
     ∷ refuses (sheet "3 2\n" "0 0\n0 1\n1 1\n1 2\n") 6 7 6 0
+    -- 6 for a list of degrees one byte short: after the lines, before 5
+    ∷ refusesIn (sheet "3 2\n" "0 0\n0 01\n") 11 0 0 1 5
+    ∷ refusesIn (sheet "3 2\n" "0 0\n0 1\n1 1\n") 11 0 0 6 0
+    ∷ refusesIn (sheet "3 2\n" "0 0\n0 1\n1 1\n") 12 0 0 5 1
+    -- the degrees, after a 5 too, and the byte past them; the list as it was after a refused line, and where it is too short
+    ∷ counts (sheet "3 2\n" "0 0\n0 1\n1 1\n1 2\n") (sevens 13) (1 ∷ 0 ∷ 0 ∷ 0 ∷ 2 ∷ 0 ∷ 0 ∷ 0 ∷ 1 ∷ 0 ∷ 0 ∷ 0 ∷ 7 ∷ [])
+    ∷ counts (sheet "3 2\n" "0 0\n0 1\n1 1\n") (sevens 12) (1 ∷ 0 ∷ 0 ∷ 0 ∷ 2 ∷ 0 ∷ 0 ∷ 0 ∷ 0 ∷ 0 ∷ 0 ∷ 0 ∷ [])
+    ∷ counts (sheet "3 2\n" "0 0\n0 01\n") (sevens 12) (sevens 12)
+    ∷ counts (sheet "3 2\n" "0 0\n0 1\n1 1\n1 2\n") (sevens 11) (sevens 11)
     ∷ []
 
 -- ---- the test
@@ -77,6 +95,8 @@ unfoldable pub passes : Trial → Bool
 passes (reads t s c n m starts columns) =
     sameList (told (sheetRead limits t s c)) (0 ∷ n ∷ m ∷ (starts ++ columns)) && writtenAs t (sheetRead limits t s c)
 passes (refuses t s c number place) = sameList (told (sheetRead limits t s c)) (number ∷ place ∷ [])
+passes (refusesIn t d s c number place) = sameList (told (sheetReadIn limits t d s c)) (number ∷ place ∷ [])
+passes (counts t old new) = sameList (degreesOf (sheetLines limits t) old) new
 
 abbrev pub TrialsPass : Type 0
 TrialsPass = AllPass passes trials

@@ -1,15 +1,16 @@
-// Reads a code sheet into the two lists of a graph.
+// Reads a code sheet into the two lists of a graph, and the degrees of its variables into a third.
 ghost use mathlib.Core.Path.{_≡_};
-ghost use mathlib.Core.List.{List};
-ghost use Prim.Native.Nat.{ℕ, suc, _*_, _≤_, _<_};
-ghost use lib.ListN.{length};
+ghost use mathlib.Core.List.{List, _++_};
+ghost use Prim.Native.Nat.{ℕ, suc, _+_, _*_, _/_, _^_, _≤_, _<_};
+ghost use lib.ListN.{length, drop};
 ghost use Rattle.rules.specs.Graphs.{limits};
+ghost use Rattle.graph.specs.Judging.{between};
+ghost use Rattle.words.specs.Words.{stored, table};
+ghost use Rattle.words.specs.Roles.{wide, degreeAt};
 ghost use Rattle.words.proofs.Filling.{Filled};
-ghost use Rattle.sheet_text.specs.Reading.{sheetLines};
-ghost use Rattle.sheet_text.specs.Scanning.{LinesAt};
-ghost use Rattle.sheet.specs.Reading.{afterLines, sheetRead, readJudged, ReadAs};
-ghost use Rattle.sheet.specs.Storing.{linesGraph, Stores, JudgedStored};
-use lines::Line;
+ghost use Rattle.sheet_text.specs.Scanning.{within, UpTo};
+ghost use Rattle.sheet.specs.Reading.{sheetRead, readJudged, ReadAs, ReadInto, JudgedInto};
+ghost use Rattle.sheet.specs.Storing.{graphFrom, EntriesAt, Stores, lowestPassed, GoesOn, CountedInto, variablesJudged, AfterLines, Finished};
 use rules::Judged;
 use rules::Refusal;
 use sheet_text::Counts;
@@ -22,9 +23,9 @@ pub enum Sheet {
 }
 
 // Makes x every row start from place a to before place b.
-fn fill(starts: &mut [u8], a: usize, b: usize, x: u16)
-    requires { ⌜ (a ≤ b) × (2 * b ≤ length (now starts)) ⌝ }
-    ensures { λ _. ⌜ ((f : ℕ → ℕ) (old : List ℕ) → Filled 2 f old (now (starts .entry)) a → ((i : ℕ) → a ≤ i → i < b → x ≡ f i) → Filled 2 f old (now (starts .exit)) b) ⌝ }
+fn fill(starts: &mut [u8], a: usize, b: usize, x: usize)
+    requires { ⌜ (a ≤ b) × (wide * b ≤ length (now starts)) × (x < 256 ^ wide) ⌝ }
+    ensures { λ _. ⌜ ((f : ℕ → ℕ) (old : List ℕ) → Filled wide f old (now (starts .entry)) a → ((i : ℕ) → a ≤ i → i < b → x ≡ f i) → Filled wide f old (now (starts .exit)) b) ⌝ }
 {
     let mut i = a;
     while i < b {
@@ -33,159 +34,260 @@ fn fill(starts: &mut [u8], a: usize, b: usize, x: u16)
     }
 }
 
-// The second pass: the entries' lines, judged before, into two lists.
+// The pass that stores: the graph of the entries' lines, into two lists.
 fn store(text: &[u8], at: usize, counts: Counts, starts: &mut [u8], columns: &mut [u8])
-    requires { ⌜ LinesAt limits (now text) (sheetLines limits (now text)) counts at ⌝ }
-    requires { ⌜ (2 * suc (counts .checks) ≤ length (now starts)) × (2 * counts .entries ≤ length (now columns)) ⌝ }
-    ensures { λ _. ⌜ Stores (linesGraph (sheetLines limits (now (text .entry)))) (now (starts .entry)) (now (starts .exit)) (now (columns .entry)) (now (columns .exit)) ⌝ }
+    requires { ⌜ EntriesAt (now text) counts at ⌝ }
+    requires { ⌜ (wide * suc (counts .checks) ≤ length (now starts)) × (wide * counts .entries ≤ length (now columns)) ⌝ }
+    ensures { λ _. ⌜ Stores (graphFrom (now (text .entry)) counts at) (now (starts .entry)) (now (starts .exit)) (now (columns .entry)) (now (columns .exit)) ⌝ }
 {
-    let m = counts.checks;
-    let count = counts.entries;
     let mut i = at;
     let mut k: usize = 0;
     let mut filled: usize = 0;
-    while k < count {
-        let line = lines::line_at(text, i);
-        let Line::Two {
-            first: c,
-            second: v,
-            next,
-        } = line
-        else {
-            return;
-        };
-        fill(starts, filled, c + 1, k as u16);
-        words::put_column(columns, k, v as u16);
-        filled = c + 1;
-        i = next;
+    while k < counts.entries {
+        let line = lines::known_line_at(text, i);
+        fill(starts, filled, line.first + 1, k);
+        words::put_column(columns, k, line.second);
+        filled = line.first + 1;
+        i = line.next;
         k += 1;
     }
-    fill(starts, filled, m + 1, count as u16);
+    fill(starts, filled, counts.checks + 1, k);
 }
 
-// 5, judged on lists of its own, and 6, where lists of so many bytes are lent.
-fn judge_stored(
+// ---- 5
+
+// Where the entries' lines are read up to check `check`: the lowest check below it that is refused, else `check`; and its first entry.
+struct Rows {
+    low: usize,
+    check: usize,
+    first: usize,
+}
+
+fn in_range(low: usize, x: usize, high: usize) -> bool
+    ensures { λ r. ⌜ r ≡ between low x high ⌝ }
+{
+    (low <= x) & (x <= high)
+}
+
+// The lowest check that is refused, where check i has d entries, `low` is the lowest below it, and check i + 1 has none.
+fn lowest(low: usize, i: usize, d: usize) -> usize
+    requires { ⌜ i ≤ limits .checks ⌝ }
+    ensures { λ r. ⌜ r ≡ lowestPassed low i d ⌝ }
+{
+    if low < i {
+        return low;
+    }
+    if !in_range(rules::LEAST_CHECK_DEGREE, d, rules::LARGEST_CHECK_DEGREE) {
+        return i;
+    }
+    i + 1
+}
+
+// Goes on to entry k, which is of check c.
+fn go_on(rows: Rows, c: usize, k: usize) -> Rows
+    requires { ⌜ (rows .check ≤ c) × (c ≤ limits .checks) × (rows .first ≤ k) ⌝ }
+    ensures { λ r. ⌜ GoesOn rows c k r ⌝ }
+{
+    if rows.check == c {
+        return rows;
+    }
+    Rows {
+        low: lowest(rows.low, rows.check, k - rows.first),
+        check: c,
+        first: k,
+    }
+}
+
+// Makes the degrees of n variables 0.
+fn clear(degrees: &mut [u8], n: usize)
+    requires { ⌜ n ≤ length (now degrees) / 4 ⌝ }
+    ensures { λ _. ⌜ now (degrees .exit) ≡ table 4 (λ _. 0) n ++ drop (4 * n) (now (degrees .entry)) ⌝ }
+{
+    let mut v = 0;
+    while v < n {
+        words::put_degree(degrees, v, 0);
+        v += 1;
+    }
+}
+
+// Adds one to the degree of variable v.
+fn add_one(degrees: &mut [u8], v: usize)
+    requires { ⌜ (v < length (now degrees) / 4) × (degreeAt (now degrees) v + 1 < 2 ^ 32) ⌝ }
+    ensures { λ _. ⌜ now (degrees .exit) ≡ stored 4 (now (degrees .entry)) (4 * v) (degreeAt (now (degrees .entry)) v + 1) ⌝ }
+{
+    let d = words::degree(degrees, v);
+    words::put_degree(degrees, v, (d + 1) as u32);
+}
+
+// The pass that counts: the degrees of all variables, and what is refused of the checks'.
+fn count_entries(text: &[u8], at: usize, counts: Counts, degrees: &mut [u8]) -> Judged
+    requires { ⌜ EntriesAt (now text) counts at ⌝ }
+    requires { ⌜ counts .variables ≤ length (now degrees) / 4 ⌝ }
+    ensures { λ r. ⌜ CountedInto (graphFrom (now (text .entry)) counts at) r (now (degrees .entry)) (now (degrees .exit)) ⌝ }
+{
+    clear(degrees, counts.variables);
+    let mut i = at;
+    let mut k: usize = 0;
+    let mut rows = Rows {
+        low: 0,
+        check: 0,
+        first: 0,
+    };
+    while k < counts.entries {
+        let line = lines::known_line_at(text, i);
+        add_one(degrees, line.second);
+        rows = go_on(rows, line.first, k);
+        i = line.next;
+        k += 1;
+    }
+    let all = go_on(rows, counts.checks, k);
+    if all.low < counts.checks {
+        return Judged::Refused(Refusal::Degree(all.low));
+    }
+    Judged::Admitted
+}
+
+// What is refused of the variables' degrees, off the list.
+fn judge_variables(counts: Counts, degrees: &[u8]) -> Judged
+    requires { ⌜ UpTo counts limits × (counts .variables ≤ length (now degrees) / 4) ⌝ }
+    ensures { λ r. ⌜ r ≡ variablesJudged (counts .checks) (degreeAt (now (degrees .entry))) (counts .variables) ⌝ }
+{
+    let n = counts.variables;
+    let m = counts.checks;
+    let mut v = 0;
+    while v < n {
+        if !in_range(
+            rules::LEAST_VARIABLE_DEGREE,
+            words::degree(degrees, v),
+            rules::LARGEST_VARIABLE_DEGREE,
+        ) {
+            return Judged::Refused(Refusal::Degree(m + v));
+        }
+        v += 1;
+    }
+    Judged::Admitted
+}
+
+// ---- the reader
+
+// What is refused after the last line, where lists of so many bytes are lent; from 5 on the list of degrees has them.
+fn judge_lines(
     text: &[u8],
     at: usize,
     counts: Counts,
-    own_starts: &mut [u8],
-    own_columns: &mut [u8],
+    degrees: &mut [u8],
     starts: usize,
     columns: usize,
 ) -> Judged
-    requires { ⌜ LinesAt limits (now text) (sheetLines limits (now text)) counts at ⌝ }
-    requires { ⌜ (2 * suc (limits .checks) ≤ length (now «own_starts»)) × (2 * limits .entries ≤ length (now «own_columns»)) ⌝ }
-    ensures { λ r. ⌜ JudgedStored limits (linesGraph (sheetLines limits (now (text .entry)))) starts columns r (now («own_starts» .entry)) (now («own_starts» .exit)) (now («own_columns» .entry)) (now («own_columns» .exit)) ⌝ }
+    requires { ⌜ EntriesAt (now text) counts at ⌝ }
+    ensures { λ r. ⌜ AfterLines (graphFrom (now (text .entry)) counts at) r (now (degrees .entry)) (now (degrees .exit)) starts columns ⌝ }
 {
-    store(text, at, counts, own_starts, own_columns);
-    let s = 2 * (counts.checks + 1);
-    let c = 2 * counts.entries;
-    let j = graph::check(counts.variables, &own_starts[0..s], &own_columns[0..c]);
+    if degrees.len() / 4 < counts.variables {
+        return Judged::Refused(Refusal::Buffer);
+    }
+    let j = count_entries(text, at, counts, degrees);
     if let Judged::Refused(r) = j {
         return Judged::Refused(r);
     }
-    if starts < s {
+    let j = judge_variables(counts, degrees);
+    if let Judged::Refused(r) = j {
+        return Judged::Refused(r);
+    }
+    if starts / words::WIDE <= counts.checks {
         return Judged::Refused(Refusal::Buffer);
     }
-    if columns < c {
+    if columns / words::WIDE < counts.entries {
         return Judged::Refused(Refusal::Buffer);
     }
     Judged::Admitted
 }
 
-// What is refused after the last line.
-fn judge_lines(text: &[u8], at: usize, counts: Counts, starts: usize, columns: usize) -> Judged
-    requires { ⌜ LinesAt limits (now text) (sheetLines limits (now text)) counts at ⌝ }
-    ensures { λ r. ⌜ r ≡ afterLines limits (linesGraph (sheetLines limits (now (text .entry)))) starts columns ⌝ }
+// Number and place of what `read_within` refuses for lists of so many bytes; the list of degrees as that leaves it.
+pub fn judge_within(
+    most: Counts,
+    text: &[u8],
+    degrees: &mut [u8],
+    starts: usize,
+    columns: usize,
+) -> Judged
+    requires { ⌜ UpTo most limits ⌝ }
+    ensures { λ r. ⌜ JudgedInto (within most) (now (text .entry)) r (now (degrees .entry)) (now (degrees .exit)) starts columns ⌝ }
 {
-    let mut own_starts = [0u8; 2 * (rules::MOST_CHECKS + 1)];
-    let mut own_columns = [0u8; 2 * rules::MOST_ENTRIES];
-    judge_stored(
-        text,
-        at,
-        counts,
-        &mut own_starts,
-        &mut own_columns,
-        starts,
-        columns,
-    )
+    let scanned = sheet_text::scan(most, text);
+    match scanned {
+        Scanned::Refused(r) => Judged::Refused(r),
+        Scanned::Lines(counts, at) => judge_lines(text, at, counts, degrees, starts, columns),
+    }
 }
+
+// What follows the last line: only where nothing is refused are the starts and columns stored.
+fn finish(
+    text: &[u8],
+    at: usize,
+    counts: Counts,
+    degrees: &mut [u8],
+    starts: &mut [u8],
+    columns: &mut [u8],
+) -> Sheet
+    requires { ⌜ EntriesAt (now text) counts at ⌝ }
+    ensures { λ r. ⌜ Finished (graphFrom (now (text .entry)) counts at) r (now (degrees .entry)) (now (degrees .exit)) (now (starts .entry)) (now (starts .exit)) (now (columns .entry)) (now (columns .exit)) ⌝ }
+{
+    let room_starts = starts.len();
+    let room_columns = columns.len();
+    let j = judge_lines(text, at, counts, degrees, room_starts, room_columns);
+    if let Judged::Refused(r) = j {
+        return Sheet::Refused(r);
+    }
+    store(text, at, counts, starts, columns);
+    Sheet::Read(counts)
+}
+
+// Reads a sheet whose counts may be as large as `most`: the refusals in their order, and only then the starts and columns.
+pub fn read_within(
+    most: Counts,
+    text: &[u8],
+    degrees: &mut [u8],
+    starts: &mut [u8],
+    columns: &mut [u8],
+) -> Sheet
+    requires { ⌜ UpTo most limits ⌝ }
+    ensures { λ r. ⌜ ReadInto (within most) (now (text .entry)) r (now (degrees .entry)) (now (degrees .exit)) (now (starts .entry)) (now (starts .exit)) (now (columns .entry)) (now (columns .exit)) ⌝ }
+{
+    let scanned = sheet_text::scan(most, text);
+    match scanned {
+        Scanned::Refused(r) => {
+            return Sheet::Refused(r);
+        }
+        Scanned::Lines(counts, at) => {
+            return finish(text, at, counts, degrees, starts, columns);
+        }
+    }
+}
+
+// ---- with a list of degrees of its own
 
 // Number and place of what `read` refuses for lists of so many bytes.
 pub fn judge_read(text: &[u8], starts: usize, columns: usize) -> Judged
     ensures { λ r. ⌜ r ≡ readJudged (sheetRead limits (now (text .entry)) starts columns) ⌝ }
 {
-    let scanned = sheet_text::scan(text);
-    match scanned {
-        Scanned::Refused(r) => Judged::Refused(r),
-        Scanned::Lines(counts, at) => judge_lines(text, at, counts, starts, columns),
-    }
-}
-
-// Where nothing is refused, the reader's own lists are copied to those that are lent.
-fn hand_over(
-    text: &[u8],
-    at: usize,
-    counts: Counts,
-    own_starts: &mut [u8],
-    own_columns: &mut [u8],
-    starts: &mut [u8],
-    columns: &mut [u8],
-) -> Sheet
-    requires { ⌜ LinesAt limits (now text) (sheetLines limits (now text)) counts at ⌝ }
-    requires { ⌜ (2 * suc (limits .checks) ≤ length (now «own_starts»)) × (2 * limits .entries ≤ length (now «own_columns»)) ⌝ }
-    ensures { λ r. ⌜ ReadAs (sheetRead limits (now (text .entry)) (length (now (starts .entry))) (length (now (columns .entry)))) r (now (starts .entry)) (now (starts .exit)) (now (columns .entry)) (now (columns .exit)) ⌝ }
-{
-    let room_starts = starts.len();
-    let room_columns = columns.len();
-    let j = judge_stored(
-        text,
-        at,
-        counts,
-        own_starts,
-        own_columns,
-        room_starts,
-        room_columns,
-    );
-    if let Judged::Refused(r) = j {
-        return Sheet::Refused(r);
-    }
-    let s = 2 * (counts.checks + 1);
-    let c = 2 * counts.entries;
-    lines::put_fixed(starts, 0, &own_starts[0..s]);
-    lines::put_fixed(columns, 0, &own_columns[0..c]);
-    Sheet::Read(counts)
-}
-
-// What follows the last line.
-fn finish(text: &[u8], at: usize, counts: Counts, starts: &mut [u8], columns: &mut [u8]) -> Sheet
-    requires { ⌜ LinesAt limits (now text) (sheetLines limits (now text)) counts at ⌝ }
-    ensures { λ r. ⌜ ReadAs (sheetRead limits (now (text .entry)) (length (now (starts .entry))) (length (now (columns .entry)))) r (now (starts .entry)) (now (starts .exit)) (now (columns .entry)) (now (columns .exit)) ⌝ }
-{
-    let mut own_starts = [0u8; 2 * (rules::MOST_CHECKS + 1)];
-    let mut own_columns = [0u8; 2 * rules::MOST_ENTRIES];
-    hand_over(
-        text,
-        at,
-        counts,
-        &mut own_starts,
-        &mut own_columns,
-        starts,
-        columns,
-    )
+    let most = Counts {
+        variables: rules::MOST_VARIABLES,
+        checks: rules::MOST_CHECKS,
+        entries: rules::MOST_ENTRIES,
+    };
+    let mut degrees = [0u8; 4 * rules::MOST_VARIABLES];
+    judge_within(most, text, &mut degrees, starts, columns)
 }
 
 // Reads a sheet: the refusals in their order, and only then the lists.
 pub fn read(text: &[u8], starts: &mut [u8], columns: &mut [u8]) -> Sheet
     ensures { λ r. ⌜ ReadAs (sheetRead limits (now (text .entry)) (length (now (starts .entry))) (length (now (columns .entry)))) r (now (starts .entry)) (now (starts .exit)) (now (columns .entry)) (now (columns .exit)) ⌝ }
 {
-    let scanned = sheet_text::scan(text);
-    match scanned {
-        Scanned::Refused(r) => {
-            return Sheet::Refused(r);
-        }
-        Scanned::Lines(counts, at) => {
-            return finish(text, at, counts, starts, columns);
-        }
-    }
+    let most = Counts {
+        variables: rules::MOST_VARIABLES,
+        checks: rules::MOST_CHECKS,
+        entries: rules::MOST_ENTRIES,
+    };
+    let mut degrees = [0u8; 4 * rules::MOST_VARIABLES];
+    read_within(most, text, &mut degrees, starts, columns)
 }

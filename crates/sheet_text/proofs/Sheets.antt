@@ -47,7 +47,7 @@ full p t x y = go (lineText p ++ t) (line-reads p t)
 module _ (c : Pair) where
   -- ---- the entries' lines
 
-  rows-read : (ps : List Pair) (k l : ℕ) (low : Pair) (done : List Pair) → Rising c low ps → length ps ≤ k
+  pub rows-read : (ps : List Pair) (k l : ℕ) (low : Pair) (done : List Pair) → Rising c low ps → length ps ≤ k
       → rows c k l low done (linesText ps) ≡ lines c (done ++ ps)
   unfolding rows linesText
   rows-read [] zero l low done r h = rw (append-nil done)

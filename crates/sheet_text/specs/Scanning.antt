@@ -1,9 +1,9 @@
 -- What the first pass owes: the lines as `sheetLines` has them.
 use mathlib.Core.Path.{_≡_}
 use mathlib.Core.List.{List, []}
-use Prim.Native.Nat.{ℕ}
+use Prim.Native.Nat.{ℕ, _≤_}
 use lib.ListN.{length, drop}
-use Rattle.rules.specs.Graphs.{Limits}
+use Rattle.rules.specs.Graphs.{Limits, limits}
 use Rattle.lines.specs.Lines.{Pair, pair}
 use Rattle.sheet_text.specs.Reading.{Lines, refused, lines, rows}
 use Rattle.sheet_text.specs.declared.Counts.{Counts}
@@ -12,6 +12,22 @@ use Rattle.sheet_text.specs.declared.Scanned.the-variants as Scans
 
 abbrev pub counted : Counts → Pair
 counted k = pair (k .variables) (k .checks)
+
+-- The limits of a graph whose counts may be as large as these.
+abbrev pub within : Counts → Limits
+within most = record {
+  variables = most .variables;
+  checks = most .checks;
+  entries = most .entries;
+  checkDegree = limits .checkDegree;
+  variableDegree = limits .variableDegree;
+}
+
+-- No count is above its limit.
+pub record UpTo (k : Counts) (L : Limits) : Type 0 where
+  pub variables : k .variables ≤ L .variables
+  pub checks : k .checks ≤ L .checks
+  pub entries : k .entries ≤ L .entries
 
 -- The lines x of the text s have these counts, and the entries' lines begin at `at`.
 pub record LinesAt (L : Limits) (s : List ℕ) (x : Lines) (k : Counts) (at : ℕ) : Type 0 where

@@ -8,7 +8,7 @@ ghost use lib.ListN.{length, drop};
 ghost use Rattle.rules.specs.Graphs.{limits};
 ghost use Rattle.lines.specs.Lines.{pair};
 ghost use Rattle.sheet_text.specs.Reading.{notBefore, countsFit, entryJudged, rows, sheetLines};
-ghost use Rattle.sheet_text.specs.Scanning.{ScannedAs};
+ghost use Rattle.sheet_text.specs.Scanning.{within, UpTo, ScannedAs};
 use lines::Line;
 use lines::Mark;
 use rules::Judged;
@@ -28,11 +28,11 @@ pub enum Scanned {
 }
 
 // Whether the counts are within limits.
-fn counts_fit(n: usize, m: usize) -> bool
-    ensures { λ r. ⌜ r ≡ countsFit limits (pair n m) ⌝ }
+fn counts_fit(most: Counts, n: usize, m: usize) -> bool
+    ensures { λ r. ⌜ r ≡ countsFit (within most) (pair n m) ⌝ }
 {
-    ((rules::FEWEST_VARIABLES <= n) & (n <= rules::MOST_VARIABLES))
-        & ((rules::FEWEST_CHECKS <= m) & (m <= rules::MOST_CHECKS))
+    ((rules::FEWEST_VARIABLES <= n) & (n <= most.variables))
+        & ((rules::FEWEST_CHECKS <= m) & (m <= most.checks))
 }
 
 // Whether the entry c v is of the graph.
@@ -63,16 +63,17 @@ fn judge_entry(n: usize, m: usize, l: usize, c0: usize, w0: usize, c: usize, v: 
 }
 
 // The entries' lines, from a place on.
-fn scan_entries(text: &[u8], from: usize, n: usize, m: usize) -> Scanned
-    requires { ⌜ (from ≤ length (now text)) × (n ≤ limits .variables) × (m ≤ limits .checks) ⌝ }
-    ensures { λ r. ⌜ ScannedAs limits (now (text .entry)) (rows (pair n m) (limits .entries) 4 (pair 0 0) [] (drop from (now (text .entry)))) r ⌝ }
+fn scan_entries(most: Counts, text: &[u8], from: usize, n: usize, m: usize) -> Scanned
+    requires { ⌜ UpTo most limits ⌝ }
+    requires { ⌜ (from ≤ length (now text)) × (n ≤ most .variables) × (m ≤ most .checks) ⌝ }
+    ensures { λ r. ⌜ ScannedAs (within most) (now (text .entry)) (rows (pair n m) (most .entries) 4 (pair 0 0) [] (drop from (now (text .entry)))) r ⌝ }
 {
     let mut at = from;
     let mut k: usize = 0;
     let mut c0: usize = 0;
     let mut w0: usize = 0;
     while at < text.len() {
-        if rules::MOST_ENTRIES <= k {
+        if most.entries <= k {
             return Scanned::Refused(Refusal::Count(k + 4));
         }
         let line = lines::line_at(text, at);
@@ -101,9 +102,10 @@ fn scan_entries(text: &[u8], from: usize, n: usize, m: usize) -> Scanned
     Scanned::Lines(counts, from)
 }
 
-// All lines.
-pub fn scan(text: &[u8]) -> Scanned
-    ensures { λ r. ⌜ ScannedAs limits (now (text .entry)) (sheetLines limits (now (text .entry))) r ⌝ }
+// All lines, where no count may be above those of `most`.
+pub fn scan(most: Counts, text: &[u8]) -> Scanned
+    requires { ⌜ UpTo most limits ⌝ }
+    ensures { λ r. ⌜ ScannedAs (within most) (now (text .entry)) (sheetLines (within most) (now (text .entry))) r ⌝ }
 {
     let first = lines::fixed_at(b"variables checks\n", text, 0);
     let Mark::After(i) = first else {
@@ -118,12 +120,12 @@ pub fn scan(text: &[u8]) -> Scanned
     else {
         return Scanned::Refused(Refusal::Form(2));
     };
-    if !counts_fit(n, m) {
+    if !counts_fit(most, n, m) {
         return Scanned::Refused(Refusal::Count(2));
     }
     let third = lines::fixed_at(b"check variable\n", text, next);
     let Mark::After(at) = third else {
         return Scanned::Refused(Refusal::Form(3));
     };
-    scan_entries(text, at, n, m)
+    scan_entries(most, text, at, n, m)
 }

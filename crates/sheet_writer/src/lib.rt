@@ -5,7 +5,7 @@ ghost use lib.ListN.{length};
 ghost use Rattle.rules.specs.Graphs.{limits, Admitted};
 ghost use Rattle.lines.specs.Numbers.{decimal};
 ghost use Rattle.lines.specs.Lines.{pair, lineText, linesText};
-ghost use Rattle.words.specs.Roles.{graphOf};
+ghost use Rattle.words.specs.Roles.{wide, graphOf};
 ghost use Rattle.lines.specs.Putting.{Put};
 ghost use Rattle.sheet_text.specs.Texts.{rowEntries, entriesOf, sheetText};
 ghost use Rattle.sheet_writer.specs.Writing.{writeJudged, WrittenAs};
@@ -69,7 +69,7 @@ fn line_length(a: usize, b: usize) -> usize
 
 // The length of the lines of check i.
 fn row_length(n: usize, starts: &[u8], columns: &[u8], i: usize) -> usize
-    requires { ⌜ Admitted (graphOf n (now starts) (now columns)) × (i < length (now starts) / 2 - 1) ⌝ }
+    requires { ⌜ Admitted (graphOf n (now starts) (now columns)) × (i < length (now starts) / wide - 1) ⌝ }
     ensures { λ r. ⌜ (r ≡ length (linesText (rowEntries (graphOf n (now (starts .entry)) (now (columns .entry))) i))) × (r ≤ limits .checkDegree * 42) ⌝ }
 {
     let a = words::start(starts, i);
@@ -88,7 +88,7 @@ fn rows_length(n: usize, starts: &[u8], columns: &[u8]) -> usize
     requires { ⌜ Admitted (graphOf n (now starts) (now columns)) ⌝ }
     ensures { λ r. ⌜ (r ≡ length (linesText (entriesOf (graphOf n (now (starts .entry)) (now (columns .entry)))))) × (r ≤ limits .checks * (limits .checkDegree * 42)) ⌝ }
 {
-    let m = starts.len() / 2 - 1;
+    let m = starts.len() / words::WIDE - 1;
     let mut total = 0;
     let mut i = 0;
     while i < m {
@@ -103,7 +103,7 @@ fn sheet_length(n: usize, starts: &[u8], columns: &[u8]) -> usize
     requires { ⌜ Admitted (graphOf n (now starts) (now columns)) ⌝ }
     ensures { λ r. ⌜ r ≡ length (sheetText (graphOf n (now (starts .entry)) (now (columns .entry)))) ⌝ }
 {
-    let counts = line_length(n, starts.len() / 2 - 1);
+    let counts = line_length(n, starts.len() / words::WIDE - 1);
     17 + counts + 15 + rows_length(n, starts, columns)
 }
 
@@ -136,7 +136,7 @@ fn put_line(text: &mut [u8], at: usize, a: usize, b: usize) -> usize
 
 // Puts the lines of check i.
 fn put_row(text: &mut [u8], at: usize, n: usize, starts: &[u8], columns: &[u8], i: usize) -> usize
-    requires { ⌜ Admitted (graphOf n (now starts) (now columns)) × (i < length (now starts) / 2 - 1) ⌝ }
+    requires { ⌜ Admitted (graphOf n (now starts) (now columns)) × (i < length (now starts) / wide - 1) ⌝ }
     requires { ⌜ at + length (linesText (rowEntries (graphOf n (now starts) (now columns)) i)) ≤ length (now text) ⌝ }
     ensures { λ r. ⌜ Put (linesText (rowEntries (graphOf n (now (starts .entry)) (now (columns .entry))) i)) (now (text .entry)) (now (text .exit)) at r ⌝ }
 {
@@ -157,7 +157,7 @@ fn put_rows(text: &mut [u8], at: usize, n: usize, starts: &[u8], columns: &[u8])
     requires { ⌜ at + length (linesText (entriesOf (graphOf n (now starts) (now columns)))) ≤ length (now text) ⌝ }
     ensures { λ r. ⌜ Put (linesText (entriesOf (graphOf n (now (starts .entry)) (now (columns .entry))))) (now (text .entry)) (now (text .exit)) at r ⌝ }
 {
-    let m = starts.len() / 2 - 1;
+    let m = starts.len() / words::WIDE - 1;
     let mut next = at;
     let mut i = 0;
     while i < m {
@@ -174,7 +174,7 @@ fn put_sheet(text: &mut [u8], n: usize, starts: &[u8], columns: &[u8]) -> usize
     ensures { λ r. ⌜ Put (sheetText (graphOf n (now (starts .entry)) (now (columns .entry)))) (now (text .entry)) (now (text .exit)) 0 r ⌝ }
 {
     let counts = put_fixed(text, 0, b"variables checks\n");
-    let titles = put_line(text, counts, n, starts.len() / 2 - 1);
+    let titles = put_line(text, counts, n, starts.len() / words::WIDE - 1);
     let entries = put_fixed(text, titles, b"check variable\n");
     put_rows(text, entries, n, starts, columns)
 }

@@ -6,12 +6,12 @@ ghost use lib.Dec.{eqb};
 ghost use lib.ListN.{length};
 ghost use Rattle.rules.specs.Ranges.{fold};
 ghost use Rattle.rules.specs.Graphs.{Admitted, unsatisfied};
-ghost use Rattle.words.specs.Roles.{columnAt, graphOf, bitOfByte};
+ghost use Rattle.words.specs.Roles.{wide, columnAt, graphOf, bitOfByte};
 
 // Whether the entries from a to before b have an odd number of ones.
 fn is_odd(columns: &[u8], a: usize, b: usize, bits: &[u8]) -> bool
-    requires { ⌜ (a ≤ b) × (b ≤ length (now columns) / 2) ⌝ }
-    requires { ⌜ ((e : ℕ) → e < length (now columns) / 2 → columnAt (now columns) e < length (now bits)) ⌝ }
+    requires { ⌜ (a ≤ b) × (b ≤ length (now columns) / wide) ⌝ }
+    requires { ⌜ ((e : ℕ) → e < length (now columns) / wide → columnAt (now columns) e < length (now bits)) ⌝ }
     ensures { λ r. ⌜ r ≡ fold xor false (λ e. bitOfByte (now (bits .entry)) (columnAt (now (columns .entry)) e)) a (b - a) ⌝ }
 {
     let mut odd = false;
@@ -28,7 +28,7 @@ pub fn odd_checks(n: usize, starts: &[u8], columns: &[u8], bits: &[u8]) -> usize
     requires { ⌜ Admitted (graphOf n (now starts) (now columns)) × (n ≤ length (now bits)) ⌝ }
     ensures { λ r. ⌜ r ≡ unsatisfied (graphOf n (now (starts .entry)) (now (columns .entry))) (bitOfByte (now (bits .entry))) ⌝ }
 {
-    let rows = starts.len() / 2 - 1;
+    let rows = starts.len() / words::WIDE - 1;
     let mut odd = 0;
     let mut i = 0;
     while i < rows {
@@ -48,7 +48,7 @@ pub fn is_codeword(n: usize, starts: &[u8], columns: &[u8], bits: &[u8]) -> bool
     requires { ⌜ Admitted (graphOf n (now starts) (now columns)) × (n ≤ length (now bits)) ⌝ }
     ensures { λ r. ⌜ r ≡ eqb (unsatisfied (graphOf n (now (starts .entry)) (now (columns .entry))) (bitOfByte (now (bits .entry)))) 0 ⌝ }
 {
-    let m = starts.len() / 2 - 1;
+    let m = starts.len() / words::WIDE - 1;
     let mut i = 0;
     while i < m {
         if is_odd(

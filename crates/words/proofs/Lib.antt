@@ -1,4 +1,5 @@
 pub mod Words
 pub mod Filling
+pub mod Tallies
 pub mod Signed
 pub mod Patterns

@@ -11,19 +11,27 @@ use mir.Val.{toZ, ofZ}
 use Rattle.rules.specs.Graphs.{Graph}
 use Rattle.words.specs.Words.{word, table}
 
--- 'Two u16 lists hold the graph': row start i, and the column of entry e.
+-- 'Two u16 lists hold the graph': so many bytes is a row start or a column.
+abbrev pub wide : ℕ
+wide = 2
+
+-- Row start i, and the column of entry e.
 abbrev pub startAt : List ℕ → ℕ → ℕ
-startAt starts i = word 2 starts (2 * i)
+startAt starts i = word wide starts (wide * i)
 
 abbrev pub columnAt : List ℕ → ℕ → ℕ
-columnAt columns e = word 2 columns (2 * e)
+columnAt columns e = word wide columns (wide * e)
+
+-- The degree of variable v, of a list of degrees: 32-bit numbers.
+abbrev pub degreeAt : List ℕ → ℕ → ℕ
+degreeAt degrees v = word 4 degrees (4 * v)
 
 -- The graph that two byte lists hold, admitted or not. No starts make no checks, which counts as a bad m.
 abbrev pub graphOf : ℕ → List ℕ → List ℕ → Graph
 graphOf n starts columns = record {
   variables = n;
-  checks = length starts / 2 - 1;
-  entries = length columns / 2;
+  checks = length starts / wide - 1;
+  entries = length columns / wide;
   start = startAt starts;
   column = columnAt columns;
 }

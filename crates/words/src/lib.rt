@@ -6,7 +6,10 @@ ghost use lib.Ieee.{binary32, ofBits};
 ghost use mir.Syntax.{w32};
 ghost use mir.Val.{toZ, ofZ};
 ghost use Rattle.words.specs.Words.{word, stored};
-ghost use Rattle.words.specs.Roles.{startAt, columnAt, sumAt, patternAt, valueAt};
+ghost use Rattle.words.specs.Roles.{wide, startAt, columnAt, degreeAt, sumAt, patternAt, valueAt};
+
+// How many bytes a row start or a column is: `wide` of specs/Roles.
+pub const WIDE: usize = 2;
 
 // The number of two bytes.
 fn join16(a: u8, b: u8) -> u16
@@ -85,34 +88,50 @@ pub fn float_of(bits: u32) -> f32
 
 // The row start i.
 pub fn start(starts: &[u8], i: usize) -> usize
-    requires { ⌜ i < length (now starts) / 2 ⌝ }
-    ensures { λ r. ⌜ (r ≡ startAt (now (starts .entry)) i) × (r < 2 ^ 16) ⌝ }
+    requires { ⌜ i < length (now starts) / wide ⌝ }
+    ensures { λ r. ⌜ (r ≡ startAt (now (starts .entry)) i) × (r < 256 ^ wide) ⌝ }
 {
-    word16(starts, 2 * i) as usize
+    word16(starts, WIDE * i) as usize
 }
 
 // The column of entry e.
 pub fn column(columns: &[u8], e: usize) -> usize
-    requires { ⌜ e < length (now columns) / 2 ⌝ }
-    ensures { λ r. ⌜ (r ≡ columnAt (now (columns .entry)) e) × (r < 2 ^ 16) ⌝ }
+    requires { ⌜ e < length (now columns) / wide ⌝ }
+    ensures { λ r. ⌜ (r ≡ columnAt (now (columns .entry)) e) × (r < 256 ^ wide) ⌝ }
 {
-    word16(columns, 2 * e) as usize
+    word16(columns, WIDE * e) as usize
 }
 
 // Makes x the row start i.
-pub fn put_start(starts: &mut [u8], i: usize, x: u16)
-    requires { ⌜ i < length (now starts) / 2 ⌝ }
-    ensures { λ _. ⌜ now (starts .exit) ≡ stored 2 (now (starts .entry)) (2 * i) x ⌝ }
+pub fn put_start(starts: &mut [u8], i: usize, x: usize)
+    requires { ⌜ (i < length (now starts) / wide) × (x < 256 ^ wide) ⌝ }
+    ensures { λ _. ⌜ now (starts .exit) ≡ stored wide (now (starts .entry)) (wide * i) x ⌝ }
 {
-    store16(starts, 2 * i, x);
+    store16(starts, WIDE * i, x as u16);
 }
 
 // Makes x the column of entry e.
-pub fn put_column(columns: &mut [u8], e: usize, x: u16)
-    requires { ⌜ e < length (now columns) / 2 ⌝ }
-    ensures { λ _. ⌜ now (columns .exit) ≡ stored 2 (now (columns .entry)) (2 * e) x ⌝ }
+pub fn put_column(columns: &mut [u8], e: usize, x: usize)
+    requires { ⌜ (e < length (now columns) / wide) × (x < 256 ^ wide) ⌝ }
+    ensures { λ _. ⌜ now (columns .exit) ≡ stored wide (now (columns .entry)) (wide * e) x ⌝ }
 {
-    store16(columns, 2 * e, x);
+    store16(columns, WIDE * e, x as u16);
+}
+
+// The degree of variable v, of a list of degrees.
+pub fn degree(degrees: &[u8], v: usize) -> usize
+    requires { ⌜ v < length (now degrees) / 4 ⌝ }
+    ensures { λ r. ⌜ (r ≡ degreeAt (now (degrees .entry)) v) × (r < 2 ^ 32) ⌝ }
+{
+    word32(degrees, 4 * v) as usize
+}
+
+// Makes x the degree of variable v.
+pub fn put_degree(degrees: &mut [u8], v: usize, x: u32)
+    requires { ⌜ v < length (now degrees) / 4 ⌝ }
+    ensures { λ _. ⌜ now (degrees .exit) ≡ stored 4 (now (degrees .entry)) (4 * v) x ⌝ }
+{
+    store32(degrees, 4 * v, x);
 }
 
 // The sum of variable v.

@@ -1,50 +1,67 @@
-use mathlib.Core.Path.{_≡_, sym, ap, _∙_}
+use mathlib.Core.Path.{_≡_, refl, sym, ap, _∙_}
+use Prim.Native.Nat.{ℕ}
 use native.Mathlib.Omega.{arith}
 use borrow.Author.Tests.{not-true, not-false}
-use borrow.Author.Needs.{needs}
+use lib.ListN.{length}
 use Rattle.rules.specs.Graphs.{limits}
 use Rattle.rules.specs.declared.Judged.the-variants.{Admitted}
-use Rattle.graph.proofs.Meaning.{graph-admitted}
-use Rattle.graph.specs.Judging.{graphJudged}
+use Rattle.graph.specs.Judging.{graphJudgedIn}
+use Rattle.graph.proofs.Lending.{lent-admitted}
 use Rattle.channel.specs.Settings.{settings, settingsJudged, checked, settingsOf}
 use Rattle.decoder.specs.Frames.{frame}
-use Rattle.decoder.specs.Decoding.{Frame, graph, frameJudged}
-use Rattle.decoder.proofs.Accepting.{graph-refused, length-refused, settings-refused, values-judged, frame-refused, memory-refused, all-admitted, checked-refused, checked-good}
+use Rattle.decoder.specs.Decoding.{Frame, graph, frameJudgedIn}
+use Rattle.decoder.proofs.Accepting.{length-refused, settings-refused, values-judged, frame-asked-in, graph-refused, frame-refused, memory-refused, all-admitted, accepts-as, checked-refused, checked-good}
+use borrow.Author.Needs.{needs}
 use Rattle.decoder.proofs.accept.Statement.{statement}
 use Rattle.decoder.proofs.accept.Tie as tie
 
 abbrev F : tie.Start → Frame
 F s = frame (s .args .n) (s .args .starts .now) (s .args .columns .now) (s .args .values .now) (s .args .asked)
 
+-- the bytes of the list of degrees
+abbrev d : tie.Start → ℕ
+d s = length (s .args .degrees .now)
+
 -- what each check that was passed says
-graph-good : (c : tie.After-enum-told) → graphJudged limits (graph (F (c .before .before .before .before .before .before))) ≡ Admitted
-graph-good c = sym (c .before .before .check .ensures) ∙ c .enum-told .given .1
+graph-good : (c : tie.After-enum-told) → (let s = c .before .before .before .before .before .before .before .before .before .before in graphJudgedIn limits (graph (F s)) (d s) ≡ Admitted)
+graph-good c = sym (c .before .before .before .before .check-into .ensures .answer) ∙ c .enum-told .given .1
 
-settings-good : (c : tie.After-enum-told2) → settingsJudged (c .before .before .before .before .before .before .before .before .before .before .args .asked) ≡ Admitted
+settings-good : (c : tie.After-enum-told2) → settingsJudged (c .before .before .before .before .before .before .before .before .before .before .before .before .before .before .args .asked) ≡ Admitted
 unfolding settingsOf
-settings-good c = checked-good (settingsJudged (c .before .before .before .before .before .before .before .before .before .before .args .asked)) (settings (c .before .before .before .before .before .before .before .before .before .before .args .asked)) (sym (c .before .before .check-settings .ensures) ∙ c .enum-told2 .given .1)
+settings-good c = let asked = c .before .before .before .before .before .before .before .before .before .before .before .before .before .before .args .asked in checked-good (settingsJudged asked) (settings asked) (sym (c .before .before .check-settings .ensures) ∙ c .enum-told2 .given .1)
 
-frame-good : (c : tie.After-enum-told3) → frameJudged (F (c .before .before .before .before .before .before .before .before .before .before .before .before .before)) ≡ Admitted
-frame-good c = values-judged (F (c .before .before .before .before .before .before .before .before .before .before .before .before .before)) (graph-good (c .before .before .before .before .before .before .before)) (c .before .before .before .before .before .before .if1 .left) (settings-good (c .before .before .before)) (sym (c .before .before .check-values .ensures) ∙ c .enum-told3 .given .1)
+frame-good : (c : tie.After-enum-told3) → (let s = c .before .before .before .before .before .before .before .before .before .before .before .before .before .before .before .before .before in frameJudgedIn (F s) (d s) ≡ Admitted)
+frame-good c =
+    let s = c .before .before .before .before .before .before .before .before .before .before .before .before .before .before .before .before .before in
+    frame-asked-in (F s) (d s) (graph-good (c .before .before .before .before .before .before .before))
+    (values-judged (F s) (c .before .before .before .before .before .before .if1 .left) (settings-good (c .before .before .before)) (sym (c .before .before .check-values .ensures) ∙ c .enum-told3 .given .1))
 
-check-requires : tie.Need-check-requires
-check-requires c κs = search needs
+check-into-requires : tie.Need-check-into-requires
+check-into-requires c κs = search needs
 
 enum-known-j : tie.Need-enum-known-j
 enum-known-j c = search needs
 
+same-length : tie.Need-same-length
+same-length c = search needs
+
 returns : tie.Need-returns
 returns c =
-    let s = c .before .before .before .before .before .before .before in
-    sym (ap (λ j. checked j (settings (s .args .asked))) (frame-refused (F s) (s .args .room) (graph-refused (F s) (sym (c .before .before .before .check .ensures) ∙ c .before .j .given .1))))
+    let k = c .before .before .before .before .before .check-into .ensures in
+    let s = c .before .before .before .before .before .before .before .before .before .before .before in
+    accepts-as (F s) (s .args .room) k (graph-refused (F s) (d s) (s .args .room) (sym (k .answer) ∙ c .before .j .given .1)) refl
 
 enum-told : tie.Need-enum-told
 enum-told c = search needs
 
+same-length-2 : tie.Need-same-length-2
+same-length-2 c = search needs
+
 returns-2 : tie.Need-returns-2
 returns-2 c =
-    let s = c .before .before .before .before .before .before .before in
-    sym (ap (λ j. checked j (settings (s .args .asked))) (frame-refused (F s) (s .args .room) (length-refused (F s) (graph-good (c .before)) (c .if1 .taken))))
+    let s = c .before .before .before .before .before .before .before .before .before .before .before in
+    accepts-as (F s) (s .args .room) (c .before .before .before .before .before .check-into .ensures)
+    (frame-refused (F s) (d s) (s .args .room) (frame-asked-in (F s) (d s) (graph-good (c .before)) (length-refused (F s) (c .if1 .taken)))) refl
 
 check-settings-requires : tie.Need-check-settings-requires
 check-settings-requires c κs = search needs
@@ -52,11 +69,16 @@ check-settings-requires c κs = search needs
 enum-known-c : tie.Need-enum-known-c
 enum-known-c c = search needs
 
+same-length-3 : tie.Need-same-length-3
+same-length-3 c = search needs
+
 returns-3 : tie.Need-returns-3
 unfolding settingsOf
 returns-3 c =
-    let s = c .before .before .before .before .before .before .before .before .before .before .before in
-    sym (ap (λ j. checked j (settings (s .args .asked))) (frame-refused (F s) (s .args .room) (settings-refused (F s) (graph-good (c .before .before .before .before .before)) (c .before .before .before .before .if1 .left) (checked-refused (settingsJudged (s .args .asked)) (settings (s .args .asked)) (sym (c .before .before .before .check-settings .ensures) ∙ c .before .c .given .1)))))
+    let s = c .before .before .before .before .before .before .before .before .before .before .before .before .before .before .before in
+    accepts-as (F s) (s .args .room) (c .before .before .before .before .before .before .before .before .before .check-into .ensures)
+    (frame-refused (F s) (d s) (s .args .room) (frame-asked-in (F s) (d s) (graph-good (c .before .before .before .before .before))
+    (settings-refused (F s) (c .before .before .before .before .if1 .left) (checked-refused (settingsJudged (s .args .asked)) (settings (s .args .asked)) (sym (c .before .before .before .check-settings .ensures) ∙ c .before .c .given .1))))) refl
 
 enum-told-2 : tie.Need-enum-told-2
 enum-told-2 c = search needs
@@ -67,46 +89,65 @@ check-values-requires c κs = search needs
 enum-known-j-2 : tie.Need-enum-known-j-2
 enum-known-j-2 c = search needs
 
+same-length-4 : tie.Need-same-length-4
+same-length-4 c = search needs
+
 returns-4 : tie.Need-returns-4
 returns-4 c =
-    let s = c .before .before .before .before .before .before .before .before .before .before .before .before .before .before in
-    sym (ap (λ j. checked j (settings (s .args .asked))) (frame-refused (F s) (s .args .room) (values-judged (F s) (graph-good (c .before .before .before .before .before .before .before .before)) (c .before .before .before .before .before .before .before .if1 .left) (settings-good (c .before .before .before .before)) (sym (c .before .before .before .check-values .ensures) ∙ c .before .j2 .given .1))))
+    let s = c .before .before .before .before .before .before .before .before .before .before .before .before .before .before .before .before .before .before in
+    accepts-as (F s) (s .args .room) (c .before .before .before .before .before .before .before .before .before .before .before .before .check-into .ensures)
+    (frame-refused (F s) (d s) (s .args .room) (frame-asked-in (F s) (d s) (graph-good (c .before .before .before .before .before .before .before .before))
+    (values-judged (F s) (c .before .before .before .before .before .before .before .if1 .left) (settings-good (c .before .before .before .before)) (sym (c .before .before .before .check-values .ensures) ∙ c .before .j2 .given .1)))) refl
 
 enum-told-3 : tie.Need-enum-told-3
 enum-told-3 c = search needs
 
 long-enough-requires : tie.Need-long-enough-requires
-long-enough-requires c κs = omega (arith, graph-admitted _ (graph-good (c .before .before .before .before .before .before .before)) .variables)
+long-enough-requires c κs = omega (arith, lent-admitted _ _ (graph-good (c .before .before .before .before .before .before .before)) .variables)
+
+same-length-5 : tie.Need-same-length-5
+same-length-5 c = search needs
 
 returns-5 : tie.Need-returns-5
 returns-5 c =
-    let s = c .before .before .before .before .before .before .before .before .before .before .before .before .before .before .before in
-    sym (ap (λ j. checked j (settings (s .args .asked))) (memory-refused (F s) (s .args .room) (frame-good (c .before .before)) (sym (c .before .long-enough .ensures) ∙ not-true _ (c .if2 .taken))))
+    let s = c .before .before .before .before .before .before .before .before .before .before .before .before .before .before .before .before .before .before .before in
+    accepts-as (F s) (s .args .room) (c .before .before .before .before .before .before .before .before .before .before .before .before .before .check-into .ensures)
+    (memory-refused (F s) (d s) (s .args .room) (frame-good (c .before .before)) (sym (c .before .long-enough .ensures) ∙ not-true _ (c .if2 .taken))) refl
+
+same-length-6 : tie.Need-same-length-6
+same-length-6 c = search needs
 
 returns-6 : tie.Need-returns-6
 unfolding settingsOf
 returns-6 c =
-    let s = c .before .before .before .before .before .before .before .before .before .before .before .before .before .before .before in
-    c .before .before .before .before .before .before .before .check-settings .ensures ∙ ap (λ j. checked j (settings (s .args .asked)))
-    (settings-good (c .before .before .before .before .before) ∙ sym (all-admitted (F s) (s .args .room) (frame-good (c .before .before)) (sym (c .before .long-enough .ensures) ∙ not-false _ (c .if2 .left))))
+    let s = c .before .before .before .before .before .before .before .before .before .before .before .before .before .before .before .before .before .before .before in
+    accepts-as (F s) (s .args .room) (c .before .before .before .before .before .before .before .before .before .before .before .before .before .check-into .ensures)
+    (all-admitted (F s) (d s) (s .args .room) (frame-good (c .before .before)) (sym (c .before .long-enough .ensures) ∙ not-false _ (c .if2 .left)))
+    (c .before .before .before .before .before .before .before .check-settings .ensures ∙ ap (λ j. checked j (settings (s .args .asked))) (settings-good (c .before .before .before .before .before)))
 
 pub accept-spec : {M : Type 1} → statement M
 accept-spec =
     tie.close
     (tie.spec
-    check-requires
+    check-into-requires
     enum-known-j
+    same-length
     returns
     enum-told
+    same-length-2
     returns-2
     check-settings-requires
     enum-known-c
+    same-length-3
     returns-3
     enum-told-2
     check-values-requires
     enum-known-j-2
+    same-length-4
     returns-4
     enum-told-3
     long-enough-requires
+    same-length-5
     returns-5
+    same-length-6
     returns-6)

@@ -1,24 +1,14 @@
 use mathlib.Core.Path.{ap, _∙_}
-use Prim.Native.Nat.{ℕ}
 use native.Mathlib.Omega.{arith}
-use lib.ListN.{getD, getD-replicate, length-replicate}
 use Rattle.rules.specs.Ranges.{tabulate}
 use Rattle.rules.specs.Levels.{byte}
-use Rattle.rules.specs.Graphs.{limits}
 use Rattle.rules.proofs.Own.{largest-within}
 use Rattle.words.specs.Roles.{graphOf}
-use Rattle.graph.proofs.Loops.{tallied-degree}
 use Rattle.decoder.specs.Steps.{offsetsIn, levelsUnder}
 use Rattle.decoder.proofs.Beginning.{begins-as, begun-length, begun-holds, begun-levels, ready-sized, runs-same}
 use borrow.Author.Needs.{needs}
 use Rattle.decoder.proofs.decode_exactly.Statement.{statement}
 use Rattle.decoder.proofs.decode_exactly.Tie as tie
-
-slice-aggregate-count-degrees : tie.Need-slice-aggregate-count-degrees
-slice-aggregate-count-degrees c = search needs
-
-count-degrees-requires : tie.Need-count-degrees-requires
-count-degrees-requires c κs = search needs
 
 largest-requires : tie.Need-largest-requires
 largest-requires c κs = search needs
@@ -28,31 +18,31 @@ largest-requires-2 c κs = search needs
 
 begin-requires : tie.Need-begin-requires
 begin-requires c κs =
-    let z = c .before .before .before .before .before .before .before .before .before .before .before .before .before .before .before .before .before .before .pre .0 in (
+    let s = c .before .before .before .before .before .before .before .before .before .before .before .before .before .before .before .before in
+    let z = s .pre .0 in
+    let a = s .args in (
       (omega (arith, z .count), omega arith, omega arith),
       (
         (
           z .finite,
-          omega (arith, c .before .before .before .before .before .before .largest .ensures, largest-within (c .before .before .before .before .before .before .before .before .before .before .before .before .before .before .before .before .before .before .args .s .channel) (z .settings .channel .1)),
-          omega (arith, c .before .before .before .before .before .largest2 .ensures, largest-within (c .before .before .before .before .before .before .before .before .before .before .before .before .before .before .before .before .before .before .args .s .message) (omega (arith, z .settings .message, z .settings .channel))),
+          omega (arith, c .before .before .before .before .before .before .largest .ensures, largest-within (a .s .channel) (z .settings .channel .1)),
+          omega (arith, c .before .before .before .before .before .largest2 .ensures, largest-within (a .s .message) (omega (arith, z .settings .message, z .settings .channel))),
         ),
         λ e l. omega (arith, z .admitted .within e l),
       ),
     )
 
-slice-aggregate-run : tie.Need-slice-aggregate-run
-slice-aggregate-run c = search needs
-
 run-requires : tie.Need-run-requires
 run-requires c κs =
-    let z = c .before .before .before .before .before .before .before .before .before .before .before .before .before .before .before .before .before .before .before .before .before .before .before .before .before .before .before .before .before .before .before .before .before .before .before .pre .0 in
-    let long = c .before .before .before .before .before .before .before .before .before .before .before .before .before .before .before .before .before .before .before .before .before .before .before .before .before .before .before .before .before .before .before .before .before .before .before .pre .1 in
-    let a = c .before .before .before .before .before .before .before .before .before .before .before .before .before .before .before .before .before .before .before .before .before .before .before .before .before .before .before .before .before .before .before .before .before .before .before .args in
-    let kept = c .before .before .before .before .before .before .before .before .before .before .before .before .before .before .before .before .begin .kept .1 .1 .1 .1 .1 .1 in
-    let w = begins-as (c .before .before .before .before .before .before .before .before .before .before .before .before .before .before .before .before .before .before .before .before .before .before .before .largest .ensures) (c .before .before .before .before .before .before .before .before .before .before .before .before .before .before .before .before .before .before .before .before .before .before .largest2 .ensures) (c .before .before .before .before .before .before .before .before .before .before .before .before .before .before .before .before .begin .ensures) in
+    let s = c .before .before .before .before .before .before .before .before .before .before .before .before .before .before .before .before .before .before .before .before .before .before .before .before .before .before .before .before .before .before .before .before in
+    let z = s .pre .0 in
+    let long = s .pre .1 .1 in
+    let a = s .args in
+    let kept = c .before .before .before .before .before .before .before .before .before .before .before .before .before .before .before .begin .kept .1 .1 .1 .1 .1 .1 in
+    let w = begins-as (c .before .before .before .before .before .before .before .before .before .before .before .before .before .before .before .before .before .before .before .before .before .before .largest .ensures) (c .before .before .before .before .before .before .before .before .before .before .before .before .before .before .before .before .before .before .before .before .before .largest2 .ensures) (c .before .before .before .before .before .before .before .before .before .before .before .before .before .before .before .begin .ensures) in
     record {
       settings = z .settings;
-      sized = ready-sized (a .n) (a .starts .now) (a .columns .now) (z .admitted) (c .before .before .before .before .before .before .before .before .before .before .before .before .before .before .before .before .before .before .before .before .before .before .before .before .before .count-degrees .kept .1 .0 ∙ length-replicate {A = ℕ} (limits .variables) 0) (λ v l. ap (λ l. getD l v 0) (c .before .before .before .before .before .before .before .before .before .before .before .before .before .before .before .before .before .before .before .before .before .before .before .before .before .count-degrees .ensures) ∙ tallied-degree _ _ _ v (omega (arith, z .admitted .entries)) l (getD-replicate (limits .variables) v 0 0 l))
+      sized = ready-sized (graphOf (a .n) (a .starts .now) (a .columns .now)) (z .admitted) (s .pre .1 .0)
           (begun-length (a .n) (a .starts .now) (a .columns .now) _ (offsetsIn (a .s)) w (z .count)) (kept .0 ∙ long .1) (kept .1 .0 ∙ long .2) (kept .1 .1 .0 ∙ long .3) (kept .1 .1 .1 .0 ∙ long .4);
       holds = begun-holds (a .n) (a .starts .now) (a .columns .now) _ (offsetsIn (a .s)) w (z .count) (long .2) (long .3);
     }
@@ -74,9 +64,10 @@ same-length-5 c = search needs
 
 returns : tie.Need-returns
 returns c =
-    let z = c .before .before .before .before .before .before .before .before .before .before .before .before .before .before .before .before .before .before .before .before .before .before .before .before .before .before .before .before .before .before .before .before .before .before .before .before .before .before .before .before .before .before .before .before .pre .0 in
-    let a = c .before .before .before .before .before .before .before .before .before .before .before .before .before .before .before .before .before .before .before .before .before .before .before .before .before .before .before .before .before .before .before .before .before .before .before .before .before .before .before .before .before .before .before .before .args in
-    let w = begins-as (c .before .before .before .before .before .before .before .before .before .before .before .before .before .before .before .before .before .before .before .before .before .before .before .before .before .before .before .before .before .before .before .before .largest .ensures) (c .before .before .before .before .before .before .before .before .before .before .before .before .before .before .before .before .before .before .before .before .before .before .before .before .before .before .before .before .before .before .before .largest2 .ensures) (c .before .before .before .before .before .before .before .before .before .before .before .before .before .before .before .before .before .before .before .before .before .before .before .before .before .begin .ensures) in
+    let s = c .before .before .before .before .before .before .before .before .before .before .before .before .before .before .before .before .before .before .before .before .before .before .before .before .before .before .before .before .before .before .before .before .before .before .before .before .before .before .before .before .before in
+    let z = s .pre .0 in
+    let a = s .args in
+    let w = begins-as (c .before .before .before .before .before .before .before .before .before .before .before .before .before .before .before .before .before .before .before .before .before .before .before .before .before .before .before .before .before .before .before .largest .ensures) (c .before .before .before .before .before .before .before .before .before .before .before .before .before .before .before .before .before .before .before .before .before .before .before .before .before .before .before .before .before .before .largest2 .ensures) (c .before .before .before .before .before .before .before .before .before .before .before .before .before .before .before .before .before .before .before .before .before .before .before .before .begin .ensures) in
     record {
       levels = w .levels ∙ ap (tabulate (λ v. byte (levelsUnder (a .s) (a .values .now) v))) (z .count);
       runs = runs-same (graphOf (a .n) (a .starts .now) (a .columns .now)) (z .admitted) _ _ _ (levelsUnder (a .s) (a .values .now))
@@ -87,12 +78,9 @@ pub decode-exactly-spec : {M : Type 1} → statement M
 decode-exactly-spec =
     tie.close
     (tie.spec
-    slice-aggregate-count-degrees
-    count-degrees-requires
     largest-requires
     largest-requires-2
     begin-requires
-    slice-aggregate-run
     run-requires
     same-length
     same-length-2

@@ -1,162 +1,19 @@
-use mathlib.Core.Path.{_≡_, sym, _∙_}
+use mathlib.Core.Path.{_∙_}
+use native.Mathlib.Omega.{arith}
+use Rattle.rules.specs.Graphs.{limits}
+use Rattle.graph.proofs.Lending.{lent-alike}
 use borrow.Author.Needs.{needs}
-use Rattle.rules.specs.Graphs.{Graph, limits}
-use Rattle.rules.specs.declared.Judged.the-variants as Judgement
-use Rattle.graph.specs.Judging.{countsJudged, startsJudged, columnsJudged, rowsJudged, checkDegreesJudged, graphJudged}
-use Rattle.words.specs.Roles.{graphOf}
 use Rattle.graph.proofs.check.Statement.{statement}
 use Rattle.graph.proofs.check.Tie as tie
 
--- the graph at hand
-abbrev G : tie.Start → Graph
-G s = graphOf (s .args .n) (s .args .starts .now) (s .args .columns .now)
+slice-aggregate-check-into : tie.Need-slice-aggregate-check-into
+slice-aggregate-check-into c = search needs
 
--- what is admitted, at the place where it is known
-counts : (c : tie.After-enum-told) → countsJudged limits (G (c .before .before .before .before .before)) ≡ Judgement.Admitted
-counts c = sym (c .before .before .check-counts .ensures) ∙ c .enum-told .given .1
-
-starts : (c : tie.After-enum-told2) → startsJudged (G (c .before .before .before .before .before .before .before .before)) ≡ Judgement.Admitted
-starts c = sym (c .before .before .check-starts .ensures) ∙ c .enum-told2 .given .1
-
-columns : (c : tie.After-enum-told3)
-    → columnsJudged (G (c .before .before .before .before .before .before .before .before .before .before .before)) ≡ Judgement.Admitted
-columns c = sym (c .before .before .check-columns .ensures) ∙ c .enum-told3 .given .1
-
-rows : (c : tie.After-enum-told4)
-    → rowsJudged (G (c .before .before .before .before .before .before .before .before .before .before .before .before .before .before)) ≡ Judgement.Admitted
-rows c = sym (c .before .before .check-rows .ensures) ∙ c .enum-told4 .given .1
-
-degrees : (c : tie.After-enum-told5)
-    → checkDegreesJudged limits (G (c .before .before .before .before .before .before .before .before .before .before .before .before .before .before .before .before .before)) ≡ Judgement.Admitted
-degrees c = sym (c .before .before .check-degrees .ensures) ∙ c .enum-told5 .given .1
-
-check-counts-requires : tie.Need-check-counts-requires
-check-counts-requires c κs = search needs
-
-enum-known-j : tie.Need-enum-known-j
-enum-known-j c = search needs
+check-into-requires : tie.Need-check-into-requires
+check-into-requires c κs = search needs
 
 returns : tie.Need-returns
-unfolding graphJudged
-returns c = sym (rw (← c .before .before .before .check-counts .ensures, c .before .j .given .1))
-
-enum-told : tie.Need-enum-told
-enum-told c = search needs
-
-check-starts-requires : tie.Need-check-starts-requires
-check-starts-requires c κs = counts c
-
-enum-known-j-2 : tie.Need-enum-known-j-2
-enum-known-j-2 c = search needs
-
-returns-2 : tie.Need-returns-2
-unfolding graphJudged
-returns-2 c = sym (rw (counts (c .before .before .before .before), ← c .before .before .before .check-starts .ensures, c .before .j2 .given .1))
-
-enum-told-2 : tie.Need-enum-told-2
-enum-told-2 c = search needs
-
-check-columns-requires : tie.Need-check-columns-requires
-check-columns-requires c κs = search needs
-
-enum-known-j-3 : tie.Need-enum-known-j-3
-enum-known-j-3 c = search needs
-
-returns-3 : tie.Need-returns-3
-unfolding graphJudged
-returns-3 c =
-    sym (rw (
-      counts (c .before .before .before .before .before .before .before),
-      starts (c .before .before .before .before),
-      ← c .before .before .before .check-columns .ensures,
-      c .before .j3 .given .1,
-    ))
-
-enum-told-3 : tie.Need-enum-told-3
-enum-told-3 c = search needs
-
-check-rows-requires : tie.Need-check-rows-requires
-check-rows-requires c κs = starts (c .before .before .before)
-
-enum-known-j-4 : tie.Need-enum-known-j-4
-enum-known-j-4 c = search needs
-
-returns-4 : tie.Need-returns-4
-unfolding graphJudged
-returns-4 c =
-    sym (rw (
-      counts (c .before .before .before .before .before .before .before .before .before .before),
-      starts (c .before .before .before .before .before .before .before),
-      columns (c .before .before .before .before),
-      ← c .before .before .before .check-rows .ensures,
-      c .before .j4 .given .1,
-    ))
-
-enum-told-4 : tie.Need-enum-told-4
-enum-told-4 c = search needs
-
-check-degrees-requires : tie.Need-check-degrees-requires
-check-degrees-requires c κs = starts (c .before .before .before .before .before .before)
-
-enum-known-j-5 : tie.Need-enum-known-j-5
-enum-known-j-5 c = search needs
-
-returns-5 : tie.Need-returns-5
-unfolding graphJudged
-returns-5 c =
-    sym (rw (
-      counts (c .before .before .before .before .before .before .before .before .before .before .before .before .before),
-      starts (c .before .before .before .before .before .before .before .before .before .before),
-      columns (c .before .before .before .before .before .before .before),
-      rows (c .before .before .before .before),
-      ← c .before .before .before .check-degrees .ensures,
-      c .before .j5 .given .1,
-    ))
-
-enum-told-5 : tie.Need-enum-told-5
-enum-told-5 c = search needs
-
-variable-degrees-requires : tie.Need-variable-degrees-requires
-variable-degrees-requires c κs = (
-  counts (c .before .before .before .before .before .before .before .before .before .before .before .before),
-  columns (c .before .before .before .before .before .before),
-)
-
-returns-6 : tie.Need-returns-6
-unfolding graphJudged
-returns-6 c =
-    c .variable-degrees .ensures
-    ∙ sym (rw (
-      counts (c .before .before .before .before .before .before .before .before .before .before .before .before .before),
-      starts (c .before .before .before .before .before .before .before .before .before .before),
-      columns (c .before .before .before .before .before .before .before),
-      rows (c .before .before .before .before),
-      degrees (c .before),
-    ))
+returns c = c .before .check-into .ensures .answer ∙ lent-alike limits _ _ (omega arith)
 
 pub check-spec : {M : Type 1} → statement M
-check-spec =
-    tie.close
-    (tie.spec
-    check-counts-requires
-    enum-known-j
-    returns
-    enum-told
-    check-starts-requires
-    enum-known-j-2
-    returns-2
-    enum-told-2
-    check-columns-requires
-    enum-known-j-3
-    returns-3
-    enum-told-3
-    check-rows-requires
-    enum-known-j-4
-    returns-4
-    enum-told-4
-    check-degrees-requires
-    enum-known-j-5
-    returns-5
-    enum-told-5
-    variable-degrees-requires
-    returns-6)
+check-spec = tie.close (tie.spec slice-aggregate-check-into check-into-requires returns)

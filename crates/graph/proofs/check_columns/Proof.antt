@@ -7,17 +7,17 @@ use lib.ListN.{length}
 use Rattle.rules.specs.Ranges.{count}
 use Rattle.rules.specs.declared.Refusal.the-variants.{Range}
 use Rattle.rules.proofs.Judging.{Passed, passed-none, passed-more, passed-all, failed-at}
-use Rattle.words.specs.Roles.{columnAt}
+use Rattle.words.specs.Roles.{wide, columnAt}
 use Rattle.graph.specs.Judging.{columnsJudged}
 use Rattle.graph.proofs.Loops.{less-true, less-false}
 use Rattle.graph.proofs.check_columns.Statement.{statement}
 use Rattle.graph.proofs.check_columns.Tie as tie
 
 abbrev Inv-loop : tie.InvT-loop
-Inv-loop n starts columns count e₀ e = (e ≤ length columns / 2) × Passed (λ k. ltb (columnAt columns k) n) (λ k. Range k) e
+Inv-loop n starts columns count e₀ e = (e ≤ length columns / wide) × Passed (λ k. ltb (columnAt columns k) n) (λ k. Range k) e
 
 abbrev μ-loop : tie.MeasureT-loop
-μ-loop n starts columns count e₀ e = length columns / 2 - e
+μ-loop n starts columns count e₀ e = length columns / wide - e
 
 loop-holds : tie.Need-loop-holds Inv-loop μ-loop
 loop-holds c = (search needs, passed-none)

@@ -2,6 +2,7 @@ use mathlib.Core.Path.{_≡_, sym}
 use Prim.Native.Nat.{_+_, _*_}
 use lib.ListN.{length, take}
 use lib.Seq.{length-take-le}
+use Rattle.words.specs.Roles.{wide}
 use Rattle.printing.proofs.Parts.{prints-as}
 use Rattle.program.proofs.Inputs.{GraphIn, sheet-refused, sheet-graph}
 use native.Mathlib.Omega.{arith}
@@ -10,23 +11,26 @@ use Rattle.program.proofs.sheet_answer.Statement.{statement}
 use Rattle.program.proofs.sheet_answer.Tie as tie
 
 -- the graph that was read
-graph-read : (c : tie.After-x2) → GraphIn (c .before .before .before .before .before .before .before .before .before .before .args .sheet .now) (c .x2 .given .0 .0) (c .before .before .before .before .read .last .1 .0) (c .before .before .before .before .read .last .1 .1 .0)
-graph-read c = sheet-graph (c .before .before .before .before .before .before .before .before .before .before .args .sheet .now) (c .before .before .before .before .read .ensures) (omega arith) (omega arith) (c .x2 .given .1)
+graph-read : (c : tie.After-x2) → GraphIn (c .before .before .before .before .before .before .before .before .before .before .before .before .args .sheet .now) (c .x2 .given .0 .0) (c .before .before .before .before .before .read-within .last .1 .1 .1 .0) (c .before .before .before .before .before .read-within .last .1 .1 .1 .1 .0)
+graph-read c = sheet-graph (c .before .before .before .before .before .before .before .before .before .before .before .before .args .sheet .now) (c .before .before .before .before .before .read-within .ensures) (omega arith) (omega arith) (omega arith) (c .x2 .given .1)
 
-starts-long : (c : tie.After-x2) → length (take (2 * (c .x2 .given .0 .0 .checks + 1)) (c .before .before .before .before .read .last .1 .0)) ≡ 2 * (c .x2 .given .0 .0 .checks + 1)
-starts-long c = length-take-le (2 * (c .x2 .given .0 .0 .checks + 1)) (c .before .before .before .before .read .last .1 .0) (omega (arith, graph-read c .checks, c .before .before .before .starts2 .given))
+starts-long : (c : tie.After-x2) → length (take (wide * (c .x2 .given .0 .0 .checks + 1)) (c .before .before .before .before .before .read-within .last .1 .1 .1 .0)) ≡ wide * (c .x2 .given .0 .0 .checks + 1)
+starts-long c = length-take-le (wide * (c .x2 .given .0 .0 .checks + 1)) (c .before .before .before .before .before .read-within .last .1 .1 .1 .0) (omega (arith, graph-read c .checks, c .before .before .before .starts2 .given))
 
-columns-long : (c : tie.After-x2) → length (take (2 * c .x2 .given .0 .0 .entries) (c .before .before .before .before .read .last .1 .1 .0)) ≡ 2 * c .x2 .given .0 .0 .entries
-columns-long c = length-take-le (2 * c .x2 .given .0 .0 .entries) (c .before .before .before .before .read .last .1 .1 .0) (omega (arith, graph-read c .entries, c .before .before .columns2 .given))
+columns-long : (c : tie.After-x2) → length (take (wide * c .x2 .given .0 .0 .entries) (c .before .before .before .before .before .read-within .last .1 .1 .1 .1 .0)) ≡ wide * c .x2 .given .0 .0 .entries
+columns-long c = length-take-le (wide * c .x2 .given .0 .0 .entries) (c .before .before .before .before .before .read-within .last .1 .1 .1 .1 .0) (omega (arith, graph-read c .entries, c .before .before .columns2 .given))
 
-slice-aggregate-read : tie.Need-slice-aggregate-read
-slice-aggregate-read c = search needs
+slice-aggregate-read-within : tie.Need-slice-aggregate-read-within
+slice-aggregate-read-within c = search needs
 
-slice-aggregate-read-2 : tie.Need-slice-aggregate-read-2
-slice-aggregate-read-2 c = search needs
+slice-aggregate-read-within-2 : tie.Need-slice-aggregate-read-within-2
+slice-aggregate-read-within-2 c = search needs
 
-read-requires : tie.Need-read-requires
-read-requires c κs = search needs
+slice-aggregate-read-within-3 : tie.Need-slice-aggregate-read-within-3
+slice-aggregate-read-within-3 c = search needs
+
+read-within-requires : tie.Need-read-within-requires
+read-within-requires c κs = search needs
 
 enum-known-x : tie.Need-enum-known-x
 enum-known-x c = search needs
@@ -65,21 +69,22 @@ same-length : tie.Need-same-length
 same-length c = search needs
 
 returns : tie.Need-returns
-returns c = prints-as (sheet-refused (c .before .before .before .before .before .before .before .before .before .before .before .before .before .before .before .args .sheet .now) (c .before .before .before .before .before .before .before .before .before .read .ensures) (omega arith) (omega arith) (c .before .before .before .before .before .x .given .1) (c .before .before .before .before .before .before .before .before .before .before .before .before .before .before .before .args .run .now)) (c .before .before .put-refusal .ensures)
+returns c = let s = c .before .before .before .before .before .before .before .before .before .before .before .before .before .before .before .before .before .args in prints-as (sheet-refused (s .sheet .now) (c .before .before .before .before .before .before .before .before .before .before .read-within .ensures) (omega arith) (omega arith) (omega arith) (c .before .before .before .before .before .x .given .1) (s .run .now)) (c .before .before .put-refusal .ensures)
 
 same-length-2 : tie.Need-same-length-2
 same-length-2 c = search needs
 
 returns-2 : tie.Need-returns-2
-returns-2 c = prints-as (graph-read (c .before .before .before .before .before .before .before .before .before) .text (c .before .before .before .before .before .before .before .before .before .before .before .before .before .before .before .before .before .before .before .args .run .now)) (c .before .before .run-answer .ensures)
+returns-2 c = prints-as (graph-read (c .before .before .before .before .before .before .before .before .before) .text (c .before .before .before .before .before .before .before .before .before .before .before .before .before .before .before .before .before .before .before .before .before .args .run .now)) (c .before .before .run-answer .ensures)
 
 pub sheet-answer-spec : {M : Type 1} → statement M
 sheet-answer-spec =
     tie.close
     (tie.spec
-    slice-aggregate-read
-    slice-aggregate-read-2
-    read-requires
+    slice-aggregate-read-within
+    slice-aggregate-read-within-2
+    slice-aggregate-read-within-3
+    read-within-requires
     enum-known-x
     put-refusal-requires
     enum-known-x-2

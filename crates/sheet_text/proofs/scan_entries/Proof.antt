@@ -3,7 +3,6 @@ use Prim.Native.Nat.{_+_, _-_, _≤_}
 use native.Mathlib.Omega.{arith}
 use borrow.Author.Needs.{needs}
 use lib.ListN.{length}
-use Rattle.rules.specs.Graphs.{limits}
 use Rattle.lines.specs.Lines.{pair}
 use Rattle.lines.specs.Places.{LineAt}
 use Rattle.sheet_text.proofs.Passes.{Scanning, scanning-none, scanning-end, scanning-many, scanning-other, scanning-refused, scanning-more, capped-entry, after-capped}
@@ -11,19 +10,19 @@ use Rattle.sheet_text.proofs.scan_entries.Statement.{statement}
 use Rattle.sheet_text.proofs.scan_entries.Tie as tie
 
 abbrev Inv-loop : tie.InvT-loop
-Inv-loop text from n m at₀ k₀ c0₀ w0₀ at k c0 w0 = (k ≤ limits .entries) × Scanning (limits .entries) (pair n m) text from at k (pair c0 w0)
+Inv-loop most text from n m at₀ k₀ c0₀ w0₀ at k c0 w0 = (k ≤ most .entries) × Scanning (most .entries) (pair n m) text from at k (pair c0 w0)
 
 abbrev μ-loop : tie.MeasureT-loop
-μ-loop text from n m at₀ k₀ c0₀ w0₀ at k c0 w0 = length text - at
+μ-loop most text from n m at₀ k₀ c0₀ w0₀ at k c0 w0 = length text - at
 
 loop-holds : tie.Need-loop-holds Inv-loop μ-loop
-loop-holds c = (omega arith, scanning-none (limits .entries) (pair (c .before .args .n) (c .before .args .m)) (c .before .args .text .now) (c .before .args .from) (c .before .pre .0))
+loop-holds c = (omega arith, scanning-none (c .before .args .most .entries) (pair (c .before .args .n) (c .before .args .m)) (c .before .args .text .now) (c .before .args .from) (c .before .pre .1 .0))
 
-add-t18 : tie.Need-add-t18 Inv-loop μ-loop
-add-t18 c = omega arith
+add-t19 : tie.Need-add-t19 Inv-loop μ-loop
+add-t19 c = omega (arith, c .before .before .before .before .before .pre .0 .entries)
 
 returns : tie.Need-returns Inv-loop μ-loop
-returns c = scanning-many (c .before .before .loop .inv .1) (omega arith) (omega arith)
+returns c = scanning-many (c .before .before .before .loop .inv .1) (omega arith) (omega arith)
 
 line-at-requires : tie.Need-line-at-requires Inv-loop μ-loop
 line-at-requires c κs = search needs
@@ -34,14 +33,14 @@ enum-known-line c = search needs
 enum-told : tie.Need-enum-told Inv-loop μ-loop
 enum-told c = search needs
 
-add-t20 : tie.Need-add-t20 Inv-loop μ-loop
-add-t20 c = omega arith
+add-t21 : tie.Need-add-t21 Inv-loop μ-loop
+add-t21 c = omega (arith, c .before .before .before .before .before .before .before .before .pre .0 .entries)
 
 returns-2 : tie.Need-returns-2 Inv-loop μ-loop
-returns-2 c = scanning-other (c .before .before .before .before .before .loop .inv .1) (omega arith) (omega arith) (subst (LineAt (c .before .before .before .before .before .before .before .args .text .now) (c .before .before .before .before .before .loop .at)) (c .enum-told .given .1) (c .before .before .line-at .ensures))
+returns-2 c = scanning-other (c .before .before .before .before .before .before .loop .inv .1) (omega arith) (omega arith) (subst (LineAt (c .before .before .before .before .before .before .before .before .args .text .now) (c .before .before .before .before .before .before .loop .at)) (c .enum-told .given .1) (c .before .before .line-at .ensures))
 
 add-judge-entry : tie.Need-add-judge-entry Inv-loop μ-loop
-add-judge-entry c = omega arith
+add-judge-entry c = omega (arith, c .before .before .before .before .before .before .before .before .before .pre .0 .entries)
 
 judge-entry-requires : tie.Need-judge-entry-requires Inv-loop μ-loop
 judge-entry-requires c κs = search needs
@@ -51,36 +50,36 @@ enum-known-j c = search needs
 
 returns-3 : tie.Need-returns-3 Inv-loop μ-loop
 returns-3 c =
-    let r = subst (LineAt (c .before .before .before .before .before .before .before .before .before .before .before .before .args .text .now) (c .before .before .before .before .before .before .before .before .before .before .loop .at)) (c .before .before .before .before .before .line .given .1) (c .before .before .before .before .before .before .before .line-at .ensures) in
-    scanning-refused (c .before .before .before .before .before .before .before .before .before .before .loop .inv .1) (omega arith) (omega arith) (r .pair) (c .before .before .before .before .before .line .given .0 .1 .1 .0) (r .reads)
-    (sym (capped-entry (pair (c .before .before .before .before .before .before .before .before .before .before .before .before .args .n) (c .before .before .before .before .before .before .before .before .before .before .before .before .args .m)) (pair (c .before .before .before .before .before .before .before .before .before .before .loop .c0) (c .before .before .before .before .before .before .before .before .before .before .loop .w0)) (c .before .before .before .before .before .before .before .before .before .before .loop .k + 4) (r .pair) (c .before .before .before .before .before .line .given .0 .0) (c .before .before .before .before .before .line .given .0 .1 .0) (omega arith) (omega arith) (r .first) (r .second)) ∙ sym (c .before .before .before .judge-entry .ensures) ∙ c .before .j .given .1)
+    let r = subst (LineAt (c .before .before .before .before .before .before .before .before .before .before .before .before .before .args .text .now) (c .before .before .before .before .before .before .before .before .before .before .before .loop .at)) (c .before .before .before .before .before .line .given .1) (c .before .before .before .before .before .before .before .line-at .ensures) in
+    scanning-refused (c .before .before .before .before .before .before .before .before .before .before .before .loop .inv .1) (omega arith) (omega arith) (r .pair) (c .before .before .before .before .before .line .given .0 .1 .1 .0) (r .reads)
+    (sym (capped-entry (pair (c .before .before .before .before .before .before .before .before .before .before .before .before .before .args .n) (c .before .before .before .before .before .before .before .before .before .before .before .before .before .args .m)) (pair (c .before .before .before .before .before .before .before .before .before .before .before .loop .c0) (c .before .before .before .before .before .before .before .before .before .before .before .loop .w0)) (c .before .before .before .before .before .before .before .before .before .before .before .loop .k + 4) (r .pair) (c .before .before .before .before .before .line .given .0 .0) (c .before .before .before .before .before .line .given .0 .1 .0) (omega (arith, c .before .before .before .before .before .before .before .before .before .before .before .before .before .pre .0 .variables)) (omega (arith, c .before .before .before .before .before .before .before .before .before .before .before .before .before .pre .0 .checks)) (r .first) (r .second)) ∙ sym (c .before .before .before .judge-entry .ensures) ∙ c .before .j .given .1)
 
 enum-told-2 : tie.Need-enum-told-2 Inv-loop μ-loop
 enum-told-2 c = search needs
 
 add-w0 : tie.Need-add-w0 Inv-loop μ-loop
 add-w0 c =
-    let r = subst (LineAt (c .before .before .before .before .before .before .before .before .before .before .before .args .text .now) (c .before .before .before .before .before .before .before .before .before .loop .at)) (c .before .before .before .before .line .given .1) (c .before .before .before .before .before .before .line-at .ensures) in
+    let r = subst (LineAt (c .before .before .before .before .before .before .before .before .before .before .before .before .args .text .now) (c .before .before .before .before .before .before .before .before .before .before .loop .at)) (c .before .before .before .before .line .given .1) (c .before .before .before .before .before .before .line-at .ensures) in
     omega (arith, r .second)
 
 add-k : tie.Need-add-k Inv-loop μ-loop
-add-k c = omega arith
+add-k c = omega (arith, c .before .before .before .before .before .before .before .before .before .before .before .before .pre .0 .entries)
 
 loop-less : tie.Need-loop-less Inv-loop μ-loop
 loop-less c =
-    let r = subst (LineAt (c .before .before .before .before .before .before .before .before .before .before .before .args .text .now) (c .before .before .before .before .before .before .before .before .before .loop .at)) (c .before .before .before .before .line .given .1) (c .before .before .before .before .before .before .line-at .ensures) in
+    let r = subst (LineAt (c .before .before .before .before .before .before .before .before .before .before .before .before .args .text .now) (c .before .before .before .before .before .before .before .before .before .before .loop .at)) (c .before .before .before .before .line .given .1) (c .before .before .before .before .before .before .line-at .ensures) in
     omega (arith, r .on, r .within)
 
 loop-again : tie.Need-loop-again Inv-loop μ-loop
 loop-again c =
-    let r = subst (LineAt (c .before .before .before .before .before .before .before .before .before .before .before .args .text .now) (c .before .before .before .before .before .before .before .before .before .loop .at)) (c .before .before .before .before .line .given .1) (c .before .before .before .before .before .before .line-at .ensures) in
-    let counts = pair (c .before .before .before .before .before .before .before .before .before .before .before .args .n) (c .before .before .before .before .before .before .before .before .before .before .before .args .m) in
-    let low = pair (c .before .before .before .before .before .before .before .before .before .loop .c0) (c .before .before .before .before .before .before .before .before .before .loop .w0) in
-    let judged = sym (capped-entry (pair (c .before .before .before .before .before .before .before .before .before .before .before .args .n) (c .before .before .before .before .before .before .before .before .before .before .before .args .m)) (pair (c .before .before .before .before .before .before .before .before .before .loop .c0) (c .before .before .before .before .before .before .before .before .before .loop .w0)) (c .before .before .before .before .before .before .before .before .before .loop .k + 4) (r .pair) (c .before .before .before .before .line .given .0 .0) (c .before .before .before .before .line .given .0 .1 .0) (omega arith) (omega arith) (r .first) (r .second)) ∙ sym (c .before .before .judge-entry .ensures) ∙ c .enum-told2 .given .1 in (
+    let r = subst (LineAt (c .before .before .before .before .before .before .before .before .before .before .before .before .args .text .now) (c .before .before .before .before .before .before .before .before .before .before .loop .at)) (c .before .before .before .before .line .given .1) (c .before .before .before .before .before .before .line-at .ensures) in
+    let counts = pair (c .before .before .before .before .before .before .before .before .before .before .before .before .args .n) (c .before .before .before .before .before .before .before .before .before .before .before .before .args .m) in
+    let low = pair (c .before .before .before .before .before .before .before .before .before .before .loop .c0) (c .before .before .before .before .before .before .before .before .before .before .loop .w0) in
+    let judged = sym (capped-entry (pair (c .before .before .before .before .before .before .before .before .before .before .before .before .args .n) (c .before .before .before .before .before .before .before .before .before .before .before .before .args .m)) (pair (c .before .before .before .before .before .before .before .before .before .before .loop .c0) (c .before .before .before .before .before .before .before .before .before .before .loop .w0)) (c .before .before .before .before .before .before .before .before .before .before .loop .k + 4) (r .pair) (c .before .before .before .before .line .given .0 .0) (c .before .before .before .before .line .given .0 .1 .0) (omega (arith, c .before .before .before .before .before .before .before .before .before .before .before .before .pre .0 .variables)) (omega (arith, c .before .before .before .before .before .before .before .before .before .before .before .before .pre .0 .checks)) (r .first) (r .second)) ∙ sym (c .before .before .judge-entry .ensures) ∙ c .enum-told2 .given .1 in (
       omega arith,
-      subst (Scanning (limits .entries) counts (c .before .before .before .before .before .before .before .before .before .before .before .args .text .now) (c .before .before .before .before .before .before .before .before .before .before .before .args .from) (c .before .before .before .before .line .given .0 .1 .1 .0) (c .before .before .before .before .before .before .before .before .before .loop .k + 1))
-          (after-capped counts low (c .before .before .before .before .before .before .before .before .before .loop .k + 4) (r .pair) (c .before .before .before .before .line .given .0 .0) (c .before .before .before .before .line .given .0 .1 .0) (omega arith) (omega arith) (r .first) (r .second) judged)
-          (scanning-more (c .before .before .before .before .before .before .before .before .before .loop .inv .1) (omega arith) (omega arith) (r .pair) (c .before .before .before .before .line .given .0 .1 .1 .0) (r .reads) (r .within) judged),
+      subst (Scanning (c .before .before .before .before .before .before .before .before .before .before .before .before .args .most .entries) counts (c .before .before .before .before .before .before .before .before .before .before .before .before .args .text .now) (c .before .before .before .before .before .before .before .before .before .before .before .before .args .from) (c .before .before .before .before .line .given .0 .1 .1 .0) (c .before .before .before .before .before .before .before .before .before .before .loop .k + 1))
+          (after-capped counts low (c .before .before .before .before .before .before .before .before .before .before .loop .k + 4) (r .pair) (c .before .before .before .before .line .given .0 .0) (c .before .before .before .before .line .given .0 .1 .0) (omega (arith, c .before .before .before .before .before .before .before .before .before .before .before .before .pre .0 .variables)) (omega (arith, c .before .before .before .before .before .before .before .before .before .before .before .before .pre .0 .checks)) (r .first) (r .second) judged)
+          (scanning-more (c .before .before .before .before .before .before .before .before .before .before .loop .inv .1) (omega arith) (omega arith) (r .pair) (c .before .before .before .before .line .given .0 .1 .1 .0) (r .reads) (r .within) judged),
     )
 
 returns-4 : tie.Need-returns-4 Inv-loop μ-loop
@@ -95,12 +94,12 @@ scan-entries-spec =
     Inv-loop
     μ-loop
     loop-holds
-    add-t18
+    add-t19
     returns
     line-at-requires
     enum-known-line
     enum-told
-    add-t20
+    add-t21
     returns-2
     add-judge-entry
     judge-entry-requires

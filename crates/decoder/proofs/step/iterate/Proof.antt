@@ -3,10 +3,6 @@ use Rattle.decoder.proofs.Stepping.{rows-of, part-small, iterated-is}
 use borrow.Author.Needs.{needs}
 use Rattle.decoder.proofs.step.iterate.Statement.{statement}
 use Rattle.decoder.proofs.step.iterate.Tie as tie
-use Rattle.nodes.proofs.check.check_nodes.Reads as check-nodes-reads
-use Rattle.nodes.proofs.sums.add_messages.Reads as add-messages-reads
-use Rattle.nodes.proofs.sums.channel_parts.Reads as channel-parts-reads
-use Rattle.nodes.proofs.sums.decide.Reads as decide-reads
 
 check-nodes-requires : tie.Need-check-nodes-requires
 check-nodes-requires c κs =
@@ -15,7 +11,7 @@ check-nodes-requires c κs =
     (rows-of (a .n) (a .starts .now) (a .columns .now) (z .admitted) _ (z .variableMessages), omega (arith, z .variableMessages, z .checkMessages))
 
 channel-parts-requires : tie.Need-channel-parts-requires
-channel-parts-requires c κs = let z = c .before .before .before .before .before .before .before .before .before .before .before .before .before .pre .0 in omega (arith, z .sums, z .levels, z .enough)
+channel-parts-requires c κs = let z = c .before .before .before .before .before .before .before .before .before .before .before .before .before .pre .0 in omega (arith, z .sums, z .levels, z .counted .enough)
 
 add-messages-requires : tie.Need-add-messages-requires
 add-messages-requires c κs =

@@ -8,7 +8,7 @@ use borrow.Rule.Slice.PartMut.{mid-len}
 use Rattle.rules.specs.Levels.{byte}
 use Rattle.rules.specs.Nodes.{fromCheck}
 use Rattle.rules.proofs.Filling.{Filled, filled-none, filled-all}
-use Rattle.words.specs.Roles.{startAt}
+use Rattle.words.specs.Roles.{wide, startAt}
 use Rattle.nodes.specs.Memory.{levelIn, onStarts}
 use Rattle.nodes.proofs.RowLaws.{row-fits, row-filled}
 use Rattle.nodes.proofs.check.check_nodes.Statement.{statement}
@@ -76,7 +76,7 @@ loop-less c = search needs
 
 loop-again : tie.Need-loop-again Inv-loop μ-loop
 loop-again c =
-    let h : c .before .before .before .before .before .before .before .before .loop .i < length (c .before .before .before .before .before .before .before .before .before .before .before .before .args .starts .now) / 2 - 1 = omega arith in
+    let h : c .before .before .before .before .before .before .before .before .loop .i < length (c .before .before .before .before .before .before .before .before .before .before .before .before .args .starts .now) / wide - 1 = omega arith in
     let e = c .before .before .before .before .before .before .before .before .before .before .before .before .pre in (
       omega arith,
       row-filled (c .before .before .before .before .before .before .before .before .before .before .before .before .args .starts .now) (length (c .before .before .before .before .before .before .before .before .before .before .before .before .args .incoming .now)) (e .0) (c .before .before .before .before .before .before .before .before .before .before .before .before .args .incoming .now) (omega arith) (omega arith) h (c .before .before .before .before .before .before .start .ensures .0) (c .before .before .before .before .before .start2 .ensures .0)
@@ -88,7 +88,7 @@ same-length c = c .before .loop .inv .1 .long
 
 returns : tie.Need-returns Inv-loop μ-loop
 returns c =
-    let e : c .before .loop .i ≡ length (c .before .before .before .before .before .args .starts .now) / 2 - 1 = omega arith in
+    let e : c .before .loop .i ≡ length (c .before .before .before .before .before .args .starts .now) / wide - 1 = omega arith in
     filled-all (ap (startAt (c .before .before .before .before .before .args .starts .now)) e ∙ c .before .before .before .before .before .pre .0 .all) (omega arith) (c .before .loop .inv .1)
 
 pub check-nodes-spec : {M : Type 1} → statement M

@@ -1,0 +1,110 @@
+-- The check of a graph where a list is lent for its degrees: how it stands to the check without.
+use mathlib.Core.Path.{_≡_, refl, sym, _∙_}
+use mathlib.Core.Bool.{Bool, true}
+use mathlib.Core.List.{List, _++_}
+use Prim.Native.Nat.{ℕ, _*_, _≤_, _<_}
+use native.Mathlib.Omega.{arith}
+use borrow.Author.Tests.{le-leb, lt-leb}
+use lib.Dec.{leb}
+use lib.ListN.{length, drop}
+use Rattle.rules.specs.Graphs.{Graph, Limits, AdmittedWithin, variableDegree}
+use Rattle.rules.specs.Refusals.{unless, orElse}
+use Rattle.rules.specs.declared.Judged.{Judged}
+use Rattle.rules.specs.declared.Judged.the-variants.{Admitted, Refused}
+use Rattle.rules.specs.declared.Refusal.{Refusal}
+use Rattle.rules.specs.declared.Refusal.the-variants.{Buffer}
+use Rattle.rules.proofs.Judging.{orElse-left, orElse-right}
+use Rattle.words.specs.Words.{table}
+use Rattle.graph.specs.Judging.{countsJudged, startsJudged, columnsJudged, rowsJudged, checkDegreesJudged, variableDegreesJudged, graphJudged, shapeJudged, degreesJudged, countable, graphJudgedIn}
+use Rattle.graph.specs.Degrees.{degreesIn, Checks, Judges, LentAlike}
+use Rattle.graph.proofs.Parts.{counts-told}
+use Rattle.graph.proofs.Meaning.{parts-admitted, graph-admitted}
+
+-- nothing is refused before 6 and 5
+pub record Shaped (L : Limits) (G : Graph) : Type 0 where
+  pub counts : countsJudged L G ≡ Admitted
+  pub starts : startsJudged G ≡ Admitted
+  pub columns : columnsJudged G ≡ Admitted
+  pub rows : rowsJudged G ≡ Admitted
+
+module _ {L : Limits} (G : Graph) where
+  pub shape-told : shapeJudged L G ≡ Admitted → Shaped L G
+  unfolding shapeJudged
+  shape-told h =
+      let after-counts = orElse-right (countsJudged L G) _ h in
+      let after-starts = orElse-right (startsJudged G) _ after-counts in
+      record {
+        counts = orElse-left (countsJudged L G) _ h;
+        starts = orElse-left (startsJudged G) _ after-counts;
+        columns = orElse-left (columnsJudged G) _ after-starts;
+        rows = orElse-right (columnsJudged G) _ after-starts;
+      }
+
+  -- ---- 5, where it ends
+
+  module _ {now : List ℕ} (counted : now ≡ table 4 (variableDegree G) (G .variables)) where
+    pub judges-refused : {r : Refusal} → checkDegreesJudged L G ≡ Refused r → Judges L G (Refused r) now
+    unfolding degreesJudged
+    judges-refused h = record { answer = sym (rw h); degrees = counted }
+
+    pub judges-last : {r : Judged} → checkDegreesJudged L G ≡ Admitted → r ≡ variableDegreesJudged L G → Judges L G r now
+    unfolding degreesJudged
+    judges-last h q = record { answer = q ∙ sym (rw h); degrees = counted }
+
+  -- ---- the check, where it ends
+
+  pub checks-refused : (old : List ℕ) {r : Refusal} → shapeJudged L G ≡ Refused r → Checks L G (Refused r) old old
+  unfolding countable graphJudgedIn
+  checks-refused old h = record { answer = sym (rw h); degrees = sym (rw h) }
+
+  module _ (old : List ℕ) (shape : shapeJudged L G ≡ Admitted) where
+    pub checks-short : length old < 4 * G .variables → Checks L G (Refused Buffer) old old
+    unfolding countable graphJudgedIn
+    checks-short l =
+        let short = lt-leb (4 * G .variables) (length old) l in
+        record { answer = sym (rw (shape, short)); degrees = sym (rw (shape, short)) }
+
+    pub checks-judged : {r : Judged} {now : List ℕ} → 4 * G .variables ≤ length old → Judges L G r now
+        → Checks L G r old (now ++ drop (4 * G .variables) old)
+    unfolding countable graphJudgedIn
+    checks-judged l j =
+        let enough = le-leb (4 * G .variables) (length old) l in
+        record { answer = j .answer ∙ sym (rw (shape, enough)); degrees = rw (j .degrees, shape, enough) }
+
+-- ---- beside the check without such a list
+
+-- with a list that is long enough wherever nothing is refused before
+long : (a s c r d : Judged) (t : Bool) → (a ≡ Admitted → t ≡ true)
+    → orElse (orElse (orElse a (orElse s (orElse c r))) (unless t Buffer)) d ≡ orElse a (orElse s (orElse c (orElse r d)))
+long (Refused _) s c r d t h = refl
+long Admitted (Refused _) c r d t h = refl
+long Admitted Admitted (Refused _) r d t h = refl
+long Admitted Admitted Admitted (Refused _) d t h = refl
+long Admitted Admitted Admitted Admitted d t h = rw (h refl)
+
+pub lent-alike : LentAlike
+unfolding graphJudged shapeJudged degreesJudged countable graphJudgedIn
+lent-alike L G d l =
+    long (countsJudged L G) (startsJudged G) (columnsJudged G) (rowsJudged G) (orElse (checkDegreesJudged L G) (variableDegreesJudged L G))
+    (leb (4 * G .variables) d) (λ h. le-leb (4 * G .variables) d (omega (arith, counts-told G h .variables .1)))
+
+-- refused by none: the graph is admitted
+pub lent-admitted : {L : Limits} (G : Graph) (d : ℕ) → graphJudgedIn L G d ≡ Admitted → AdmittedWithin L G
+unfolding degreesJudged countable graphJudgedIn
+lent-admitted {L} G d h =
+    let shape = shape-told G (orElse-left (shapeJudged L G) _ (orElse-left (countable L G d) _ h)) in
+    let degrees = orElse-right (countable L G d) _ h in
+    graph-admitted G (parts-admitted G (record {
+      counts = shape .counts;
+      starts = shape .starts;
+      columns = shape .columns;
+      rows = shape .rows;
+      checkDegrees = orElse-left (checkDegreesJudged L G) _ degrees;
+      variableDegrees = orElse-right (checkDegreesJudged L G) _ degrees;
+    }))
+
+-- .. and the list holds the degrees
+pub lent-counted : (L : Limits) (G : Graph) (d : ℕ) (old : List ℕ) {now : List ℕ} → graphJudgedIn L G d ≡ Admitted → now ≡ degreesIn (countable L G d) G old
+    → now ≡ table 4 (variableDegree G) (G .variables) ++ drop (4 * G .variables) old
+unfolding graphJudgedIn
+lent-counted L G d old h e = e ∙ rw (orElse-left (countable L G d) _ h)

@@ -1,0 +1,116 @@
+-- The whole call: from the lines of a sheet under limits to what follows them, and to a list of degrees that is always long enough.
+use mathlib.Core.Path.{_≡_, refl, sym, ap, _∙_}
+use mathlib.Core.List.{List, []}
+use Prim.Native.Nat.{ℕ, _*_, _≤_}
+use native.Mathlib.Omega.{arith}
+use borrow.Author.Tests.{le-leb}
+use lib.ListN.{length, drop}
+use Rattle.rules.specs.Graphs.{Graph, Limits, limits}
+use Rattle.rules.specs.declared.Refusal.{Refusal}
+use Rattle.rules.specs.declared.Judged.{Judged}
+use Rattle.rules.specs.declared.Judged.the-variants as Judgement
+use Rattle.graph.specs.Judging.{checkDegreesJudged, variableDegreesJudged}
+use Rattle.lines.specs.Lines.{pair}
+use Rattle.sheet_text.specs.Reading.{Lines, refused, lines, rows, sheetLines}
+use Rattle.sheet_text.specs.Scanning.{counted, within, UpTo, LinesAt}
+use Rattle.sheet_text.specs.declared.Counts.{Counts}
+use Rattle.sheet_text.proofs.Sheets.{rows-read, rows-told, sheet-told, counts-told}
+use Rattle.sheet.specs.Reading.{Reading, afterLinesIn, unlessRefused, readJudged, readLines, readLinesIn, sheetRead, sheetReadIn, degreesIn, degreesOf, answerOf, startsOf, columnsOf, ReadAs, ReadInto, JudgedInto}
+use Rattle.sheet.specs.Storing.{linesGraph, linesFrom, graphFrom, EntriesAt, AfterLines, Finished}
+use Rattle.sheet.specs.Theorems.{SameReading}
+use Rattle.sheet.specs.declared.Sheet.{Sheet}
+use Rattle.sheet.specs.declared.Sheet.the-variants as Answer
+
+-- ---- the lines are refused
+
+module _ {L : Limits} {t : List ℕ} {r : Refusal} (e : sheetLines L t ≡ refused r) where
+  pub lines-refused : {d s c : List ℕ} → ReadInto L t (Answer.Refused r) d d s s c c
+  unfolding sheetReadIn
+  lines-refused = record { answer = rw e; degrees = rw e; starts = rw e; columns = rw e }
+
+  pub lines-judged : {d : List ℕ} {s c : ℕ} → JudgedInto L t (Judgement.Refused r) d d s c
+  unfolding sheetReadIn
+  lines-judged = record { judged = rw e; degrees = rw e }
+
+-- ---- the lines are not refused
+
+judged-back : (j : Judged) (G : Graph) → readJudged (unlessRefused j G) ≡ j
+judged-back Judgement.Admitted G = refl
+judged-back (Judgement.Refused r) G = refl
+
+-- the limits of the degrees are always the same
+same-degrees : (most : Counts) (G : Graph) (d s c : ℕ) → afterLinesIn (within most) G d s c ≡ afterLinesIn limits G d s c
+unfolding checkDegreesJudged variableDegreesJudged
+same-degrees most G d s c = refl
+
+module _ {most : Counts} (u : UpTo most limits) {t : List ℕ} {k : Counts} {at : ℕ} (h : LinesAt (within most) t (sheetLines (within most) t) k at) where
+  from-here : linesFrom t k at ≡ lines (counted k) (h .entries)
+  from-here =
+      let w = rows-told (counted k) (most .entries) 4 (pair 0 0) [] (drop at t) (counted k) (h .entries) (h .rest) in
+      ap (rows (counted k) (k .entries) 4 (pair 0 0) []) (w .text)
+      ∙ rows-read (counted k) (w .entries) (k .entries) 4 (pair 0 0) [] (w .rising) (omega (arith, h .many, ap length (w .all)))
+      ∙ ap (lines (counted k)) (sym (w .all))
+
+  pub entries-at : EntriesAt t k at
+  entries-at =
+      let told = sheet-told t (counted k) (h .entries) (h .are) .1 in
+      let n = counts-told (within most) (counted k) (told .counts) in
+      record {
+        entries = h .entries;
+        are = from-here;
+        many = h .many;
+        small = record {
+          variables = omega (arith, n .0 .1, u .variables);
+          checks = omega (arith, n .1 .1, u .checks);
+          entries = omega (arith, told .few, h .many, u .entries);
+        };
+      }
+
+  same-lines : sheetLines (within most) t ≡ linesFrom t k at
+  same-lines = h .are ∙ sym from-here
+
+  reading : (d s c : ℕ) → sheetReadIn (within most) t d s c ≡ unlessRefused (afterLinesIn limits (graphFrom t k at) d s c) (graphFrom t k at)
+  unfolding sheetReadIn
+  reading d s c = rw (same-lines, from-here) (ap (λ (j : Judged). unlessRefused j (linesGraph (lines (counted k) (h .entries)))) (same-degrees most (linesGraph (lines (counted k) (h .entries))) d s c))
+
+  degrees-same : (d : List ℕ) → degreesOf (sheetLines (within most) t) d ≡ degreesIn (graphFrom t k at) d
+  degrees-same d = rw (same-lines, from-here)
+
+  pub read-into : {r : Sheet} {d d′ s s′ c c′ : List ℕ} → Finished (graphFrom t k at) r d d′ s s′ c c′ → ReadInto (within most) t r d d′ s s′ c c′
+  read-into {d} {s} {c} f =
+      let x = sym (reading (length d) (length s) (length c)) in
+      record {
+        answer = f .read .answer ∙ ap answerOf x;
+        degrees = f .degrees ∙ sym (degrees-same d);
+        starts = f .read .starts ∙ ap (λ (y : Reading). startsOf y s) x;
+        columns = f .read .columns ∙ ap (λ (y : Reading). columnsOf y c) x;
+      }
+
+  pub judged-into : {r : Judged} {d d′ : List ℕ} {s c : ℕ} → AfterLines (graphFrom t k at) r d d′ s c → JudgedInto (within most) t r d d′ s c
+  judged-into {d} {s} {c} f = record {
+    judged = f .judged ∙ sym (ap readJudged (reading (length d) s c) ∙ judged-back (afterLinesIn limits (graphFrom t k at) (length d) s c) (graphFrom t k at));
+    degrees = f .degrees ∙ sym (degrees-same d);
+  }
+
+-- ---- a list of degrees that is long enough
+
+pub same-reading : SameReading
+unfolding sheetRead sheetReadIn
+same-reading L t d s c l = go (sheetLines L t) refl
+  where
+    go : (x : Lines) → sheetLines L t ≡ x → readLinesIn L x d s c ≡ readLines L x s c
+    go (refused r) e = refl
+    go (lines k ps) e = rw (le-leb (4 * k .first) d (omega (arith, counts-told L k (sheet-told t k ps e .1 .counts) .0 .1)))
+
+module _ {L : Limits} {t : List ℕ} where
+  pub read-as : {r : Sheet} {d d′ s s′ c c′ : List ℕ} → 4 * L .variables ≤ length d → ReadInto L t r d d′ s s′ c c′ → ReadAs (sheetRead L t (length s) (length c)) r s s′ c c′
+  read-as {d} {s} {c} l f =
+      let x = same-reading L t (length d) (length s) (length c) l in
+      record {
+        answer = f .answer ∙ ap answerOf x;
+        starts = f .starts ∙ ap (λ (y : Reading). startsOf y s) x;
+        columns = f .columns ∙ ap (λ (y : Reading). columnsOf y c) x;
+      }
+
+  pub judged-as : {r : Judged} {d d′ : List ℕ} {s c : ℕ} → 4 * L .variables ≤ length d → JudgedInto L t r d d′ s c → r ≡ readJudged (sheetRead L t s c)
+  judged-as {d} {s} {c} l f = f .judged ∙ ap readJudged (same-reading L t (length d) s c l)
