@@ -17,7 +17,6 @@ use Rattle.rules.proofs.Judging.{and-left, and-right, orElse-left, orElse-right
 use Rattle.rules.specs.declared.Report.{Report}
 use Rattle.graph.specs.Judging.{graphJudged, graphJudgedIn}
 use Rattle.graph.specs.Degrees as Lent
-use Rattle.graph.proofs.Meaning.{graph-admitted}
 use Rattle.graph.proofs.Lending as Lending
 use Rattle.graph.proofs.Lending.{lent-admitted, lent-counted}
 use Rattle.channel.specs.declared.Settings.{Settings}
@@ -27,8 +26,9 @@ use Rattle.channel.specs.Settings.{settings, settingsJudged, checked, settingsO
 use Rattle.channel.proofs.Accepted.{good-settings}
 use Rattle.channel.specs.Values.{valuesJudged}
 use Rattle.decoder.specs.declared.Room.{Room}
-use Rattle.decoder.specs.Decoding.{Frame, Memory, roomOf, graph, enough, askedJudged, frameJudged, decodeJudged, frameJudgedIn, decodeJudgedIn, decoded, memoryAfter, Decodes, Accepts, LentAlike}
+use Rattle.decoder.specs.Decoding.{Frame, Memory, roomOf, graph, enough, askedJudged, frameJudged, decodeJudged, frameJudgedIn, decodeJudgedIn, decoded, memoryAfter, Decodes, Accepts, DecodesInto, LentAlike}
 use Rattle.decoder.specs.Steps.{Degrees, Ready}
+use Rattle.decoder.specs.declared.Decoded.{Decoded}
 use Rattle.decoder.specs.declared.Decoded.the-variants as Answers
 use Rattle.decoder.proofs.Beginning.{RunsInto, counted-degrees}
 
@@ -113,15 +113,16 @@ pub record Told (F : Frame) : Type 0 where
   pub settings : settingsJudged (F .asked) ≡ Admitted
   pub values : valuesJudged (F .values) ≡ Admitted
 
-pub frame-told : (F : Frame) → frameJudged F ≡ Admitted → Told F
-unfolding frameJudged
-frame-told F h = record {
-  graph = orElse-left (graphJudged limits (graph F)) rest h;
-  count = eqb-true (length (F .values) / 4) (F .variables) (unless-true (eqb (length (F .values) / 4) (F .variables)) (Length (length (F .values) / 4)) (orElse-left counted others after));
-  settings = orElse-left s v (orElse-right counted others after);
-  values = orElse-right s v (orElse-right counted others after);
-}
+pub asked-told : (F : Frame) → askedJudged F ≡ Admitted → (length (F .values) / 4 ≡ F .variables) × (settingsJudged (F .asked) ≡ Admitted) × (valuesJudged (F .values) ≡ Admitted)
+asked-told F h = (
+  eqb-true count (F .variables) (unless-true (eqb count (F .variables)) (Length count) (orElse-left counted others h)),
+  orElse-left s v (orElse-right counted others h),
+  orElse-right s v (orElse-right counted others h),
+)
   where
+    count : ℕ
+    count = length (F .values) / 4
+
     s : Judged
     s = settingsJudged (F .asked)
 
@@ -129,16 +130,16 @@ frame-told F h = record {
     v = valuesJudged (F .values)
 
     counted : Judged
-    counted = unless (eqb (length (F .values) / 4) (F .variables)) (Length (length (F .values) / 4))
+    counted = unless (eqb count (F .variables)) (Length count)
 
     others : Judged
     others = orElse s v
 
-    rest : Judged
-    rest = orElse counted others
-
-    after : rest ≡ Admitted
-    after = orElse-right (graphJudged limits (graph F)) rest h
+pub frame-told : (F : Frame) → frameJudged F ≡ Admitted → Told F
+unfolding frameJudged
+frame-told F h =
+    let a = asked-told F (orElse-right (graphJudged limits (graph F)) (askedJudged F) h) in
+    record { graph = orElse-left (graphJudged limits (graph F)) (askedJudged F) h; count = a .0; settings = a .1; values = a .2 }
 
 pub memory-told : (F : Frame) (m : Room) → decodeJudged F m ≡ Admitted → (frameJudged F ≡ Admitted) × (enough (F .variables) (graph F .entries) m ≡ true)
 unfolding decodeJudged
@@ -147,64 +148,71 @@ memory-told F m h = (
   unless-true (enough (F .variables) (graph F .entries) m) Buffer (orElse-right (frameJudged F) (unless (enough (F .variables) (graph F .entries) m) Buffer) h),
 )
 
--- ---- what `accept` tells, lent a list of degrees
-
-module _ {F : Frame} {m : Room} {a : Checked} {old now : List ℕ} (accepts : Accepts F m a old now) where
-  pub accepted-alike : 4 * limits .variables ≤ length old → a ≡ checked (decodeJudged F m) (settings (F .asked))
-  accepted-alike l = accepts .answer ∙ ap (λ j. checked j (settings (F .asked))) (lent-alike F (length old) l .decode m)
-
-  -- the list of an accepted frame holds its degrees
-  pub accepted-degrees : {s : Settings} → a ≡ Checks.Good s → Degrees (graph F) now
-  unfolding frameJudgedIn decodeJudgedIn
-  accepted-degrees h =
-      let d = length old in
-      let frame = orElse-left (frameJudgedIn F d) _ (checked-good (decodeJudgedIn F d m) (settings (F .asked)) (sym (accepts .answer) ∙ h)) in
-      let judged = orElse-left (graphJudgedIn limits (graph F) d) (askedJudged F) frame in
-      counted-degrees (graph F) _ (lent-admitted (graph F) d judged) (lent-counted limits (graph F) d old judged (accepts .degrees))
-
 -- ---- the answers of decode, from what `accept` answers
 
 checked-same : (j : Judged) (s : Settings) {t : Settings} → checked j s ≡ Checks.Good t → s ≡ t
 checked-same Admitted s h = cc
 checked-same (Refused x) s h = let z : _≡_ {A = ℕ} 0 1 = cc in absurd (omega arith)
 
-module _ (F : Frame) (M : Memory) where
-  abbrev acceptance : Checked
-  acceptance = checked (decodeJudged F (roomOf M)) (settings (F .asked))
+module _ (F : Frame) (M : Memory) {d d′ : List ℕ} {a : Checked} (accepts : Accepts F (roomOf M) a d d′) where
+  abbrev judgement : Judged
+  judgement = decodeJudgedIn F (length d) (roomOf M)
 
-  pub decodes-refused : {r : Refusal} → acceptance ≡ Checks.Refused r → Decodes F M M (Answers.Refused r)
-  decodes-refused {r} e = record { answer = sym (ap (decoded F) h); memory = sym (ap (λ j. memoryAfter F j M) h) }
+  pub decodes-refused : {r : Refusal} → a ≡ Checks.Refused r → DecodesInto F M M d d′ (Answers.Refused r)
+  decodes-refused {r} e = record { answer = sym (ap (decoded F) h); memory = sym (ap (λ j. memoryAfter F j M) h); degrees = accepts .degrees }
     where
-      h : decodeJudged F (roomOf M) ≡ Refused r
-      h = checked-refused (decodeJudged F (roomOf M)) (settings (F .asked)) e
+      h : judgement ≡ Refused r
+      h = checked-refused judgement (settings (F .asked)) (sym (accepts .answer) ∙ e)
 
-  module _ {s : Settings} (e : acceptance ≡ Checks.Good s) where
-    admitted : decodeJudged F (roomOf M) ≡ Admitted
-    admitted = checked-good (decodeJudged F (roomOf M)) (settings (F .asked)) e
+  module _ {s : Settings} (e : a ≡ Checks.Good s) where
+    admitted : judgement ≡ Admitted
+    admitted = checked-good judgement (settings (F .asked)) (sym (accepts .answer) ∙ e)
 
     same : settings (F .asked) ≡ s
-    same = checked-same (decodeJudged F (roomOf M)) (settings (F .asked)) e
+    same = checked-same judgement (settings (F .asked)) (sym (accepts .answer) ∙ e)
+
+    framed : frameJudgedIn F (length d) ≡ Admitted
+    unfolding decodeJudgedIn
+    framed = orElse-left (frameJudgedIn F (length d)) (unless (enough (F .variables) (graph F .entries) (roomOf M)) Buffer) admitted
+
+    graphed : graphJudgedIn limits (graph F) (length d) ≡ Admitted
+    unfolding frameJudgedIn
+    graphed = orElse-left (graphJudgedIn limits (graph F) (length d)) (askedJudged F) framed
 
     -- what the run asks
-    pub decode-ready : Ready s (graph F) (F .values) × (enough (F .variables) (graph F .entries) (roomOf M) ≡ true)
-    unfolding settingsOf
+    pub decode-ready : Ready s (graph F) (F .values)
+    unfolding frameJudgedIn settingsOf
     decode-ready =
-        let held = memory-told F (roomOf M) admitted in
-        let told = frame-told F (held .0) in (
-          subst (λ t. Ready t (graph F) (F .values)) same (record {
-            settings = good-settings (F .asked) (settings (F .asked)) (ap (λ j. checked j (settings (F .asked))) (told .settings)) .1;
-            admitted = graph-admitted (graph F) (told .graph);
-            count = told .count;
-            finite = told .values;
-          }),
-          held .1,
-        )
+        let told = asked-told F (orElse-right (graphJudgedIn limits (graph F) (length d)) (askedJudged F) framed) in
+        subst (λ t. Ready t (graph F) (F .values)) same (record {
+          settings = good-settings (F .asked) (settings (F .asked)) (ap (λ j. checked j (settings (F .asked))) (told .1)) .1;
+          admitted = lent-admitted (graph F) (length d) graphed;
+          count = told .0;
+          finite = told .2;
+        })
 
-    pub decodes-ran : {M′ : Memory} {r : Report} → RunsInto s (graph F) (F .values) r M M′ → Decodes F M M′ (Answers.Ran r)
+    pub decode-room : enough (F .variables) (graph F .entries) (roomOf M) ≡ true
+    unfolding decodeJudgedIn
+    decode-room =
+        unless-true (enough (F .variables) (graph F .entries) (roomOf M)) Buffer
+        (orElse-right (frameJudgedIn F (length d)) (unless (enough (F .variables) (graph F .entries) (roomOf M)) Buffer) admitted)
+
+    pub decode-degrees : Degrees (graph F) d′
+    decode-degrees =
+        counted-degrees (graph F) _ (lent-admitted (graph F) (length d) graphed) (lent-counted limits (graph F) (length d) d graphed (accepts .degrees))
+
+    pub decodes-ran : {M′ : Memory} {r : Report} → RunsInto s (graph F) (F .values) r M M′ → DecodesInto F M M′ d d′ (Answers.Ran r)
     decodes-ran {M′} {r} w = record {
       answer = ap Answers.Ran (run .report) ∙ sym (ap (decoded F) admitted);
       memory = run .memory ∙ sym (ap (λ j. memoryAfter F j M) admitted);
+      degrees = accepts .degrees;
     }
       where
         run : RunsInto (settings (F .asked)) (graph F) (F .values) r M M′
         run = subst (λ t. RunsInto t (graph F) (F .values) r M M′) (sym same) w
+
+-- lent a list for the most variables, decode answers as it does without one
+pub decodes-alike : (F : Frame) (M : Memory) {M′ : Memory} {d d′ : List ℕ} {r : Decoded} → 4 * limits .variables ≤ length d → DecodesInto F M M′ d d′ r → Decodes F M M′ r
+decodes-alike F M {M′} {d} {d′} {r} l w =
+    let e = lent-alike F (length d) l .decode (roomOf M) in
+    record { answer = w .answer ∙ ap (decoded F) e; memory = w .memory ∙ ap (λ j. memoryAfter F j M) e }

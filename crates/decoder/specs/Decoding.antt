@@ -126,6 +126,12 @@ pub record Accepts (F : Frame) (m : Room) (r : Checked) (old now : List ℕ) : T
   pub answer : r ≡ checked (decodeJudgedIn F (length old) m) (settings (F .asked))
   pub degrees : now ≡ degreesIn (countable limits (graph F) (length old)) (graph F) old
 
+-- What decode promises where it is lent such a list: the answer, the memory, and the list, d before and d′ after.
+pub record DecodesInto (F : Frame) (M M′ : Memory) (d d′ : List ℕ) (r : Decoded) : Type 0 where
+  pub answer : r ≡ decoded F (decodeJudgedIn F (length d) (roomOf M))
+  pub memory : M′ ≡ memoryAfter F (decodeJudgedIn F (length d) (roomOf M)) M
+  pub degrees : d′ ≡ degreesIn (countable limits (graph F) (length d)) (graph F) d
+
 -- 'The same answers as before where that list is long enough.'
 pub record LentAlike (F : Frame) (d : ℕ) : Type 0 where
   pub frame : frameJudgedIn F d ≡ frameJudged F

@@ -11,6 +11,7 @@ use Rattle.rules.specs.declared.Report.{Report}
 use Rattle.rules.specs.declared.Verdict.{Verdict}
 use Rattle.rules.specs.declared.Verdict.the-variants.{Codeword, Stopped}
 use Rattle.words.specs.Words.{bytes}
+use Rattle.words.specs.Roles.{wide}
 use Rattle.channel.specs.declared.Scaling.the-variants.{Plain}
 use Rattle.channel.specs.Trials as Levels
 use Rattle.decoder.specs.Decoding.{Frame, graph, scheme}
@@ -32,7 +33,7 @@ inBytes w (x ∷ xs) = bytes w x ++ inBytes w xs
 -- 'Sheet lines .. `0 0`, `0 1`, `1 1`, `1 2`. Run text lines .. `3f800000 3 3 1 1 0 5`.'
 unfoldable pub example : List ℕ → ℕ → Frame
 example values limit =
-    frame 3 (inBytes 2 (0 ∷ 2 ∷ 4 ∷ [])) (inBytes 2 (0 ∷ 1 ∷ 1 ∷ 2 ∷ [])) (inBytes 4 values)
+    frame 3 (inBytes wide (0 ∷ 2 ∷ 4 ∷ [])) (inBytes wide (0 ∷ 1 ∷ 1 ∷ 2 ∷ [])) (inBytes 4 values)
     (record { scaling = Plain (ofBits binary32 0x3f80_0000); channel = 3; message = 3; «phi_s» = 1; «phi_a» = 1; «phi_0» = 0; limit = limit })
 
 unfoldable pub trials : List Trial

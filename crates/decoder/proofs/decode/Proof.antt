@@ -1,14 +1,13 @@
-use mathlib.Core.Path.{_≡_, sym, _∙_}
+use mathlib.Core.Path.{sym}
 use Prim.Native.Nat.{_*_, _/_, _≤_}
 use native.Mathlib.Omega.{arith}
 use lib.ListN.{length}
 use lib.Seq.{length-take-le}
 use Rattle.words.specs.Roles.{wide}
-use Rattle.channel.specs.Settings.{settings, checked}
-use Rattle.decoder.specs.Decoding.{Frame, Memory, roomOf, decodeJudged}
+use Rattle.decoder.specs.Decoding.{Frame, Memory, roomOf}
 use Rattle.decoder.specs.Frames.{frame, memory}
 use Rattle.decoder.proofs.Beginning.{run-into}
-use Rattle.decoder.proofs.Accepting.{enough-told, accepted-alike, accepted-degrees, decode-ready, decodes-refused, decodes-ran}
+use Rattle.decoder.proofs.Accepting.{enough-told, decode-ready, decode-room, decode-degrees, decodes-refused, decodes-ran, decodes-alike}
 use borrow.Author.Needs.{needs}
 use Rattle.decoder.proofs.decode.Statement.{statement}
 use Rattle.decoder.proofs.decode.Tie as tie
@@ -19,14 +18,10 @@ F s = frame (s .args .n) (s .args .starts .now) (s .args .columns .now) (s .args
 abbrev M : tie.Start → Memory
 M s = let a = s .args in memory (a .levels .now) (a .variable-messages .now) (a .check-messages .now) (a .sums .now) (a .bits .now)
 
--- what `accept` answers, lent a list for the most variables
-answered : (c : tie.After-accept) → (let s = c .before .before .before .before .before .before .before .before .before .before in c .accept .result ≡ checked (decodeJudged (F s) (roomOf (M s))) (settings (s .args .asked)))
-answered c = accepted-alike {F = F (c .before .before .before .before .before .before .before .before .before .before)} (c .accept .ensures) (omega arith)
-
 -- each list of an accepted frame is long enough
 long : (c : tie.After-known-told2) → (let s = c .before .before .before .before .before .before .before .before .before .before .before .before .before .before in let n = s .args .n in let E = length (s .args .columns .now) / wide in
     (n ≤ length (M s .levels)) × (E ≤ length (M s .variableMessages)) × (E ≤ length (M s .checkMessages)) × (4 * n ≤ length (M s .sums)) × (n ≤ length (M s .bits)))
-long c = let s = c .before .before .before .before .before .before .before .before .before .before .before .before .before .before in enough-told (s .args .n) (length (s .args .columns .now) / wide) (roomOf (M s)) (decode-ready (F s) (M s) (sym (answered (c .before .before .before .before)) ∙ c .before .c2 .given .1) .1)
+long c = let s = c .before .before .before .before .before .before .before .before .before .before .before .before .before .before in enough-told (s .args .n) (length (s .args .columns .now) / wide) (roomOf (M s)) (decode-room (F s) (M s) (c .before .before .before .before .accept .ensures) (c .before .c2 .given .1))
 
 slice-aggregate-accept : tie.Need-slice-aggregate-accept
 slice-aggregate-accept c = search needs
@@ -41,7 +36,7 @@ enum-known-c-2 : tie.Need-enum-known-c-2
 enum-known-c-2 c = search needs
 
 mul-w : tie.Need-mul-w
-mul-w c = let s = c .before .before .before .before .before .before .before .before .before .before .before .before .before .before in omega (arith, decode-ready (F s) (M s) (sym (answered (c .before .before .before .before)) ∙ c .before .c2 .given .1) .0 .admitted .variables)
+mul-w c = let s = c .before .before .before .before .before .before .before .before .before .before .before .before .before .before in omega (arith, decode-ready (F s) (M s) (c .before .before .before .before .accept .ensures) (c .before .c2 .given .1) .admitted .variables)
 
 slice-aggregate-decode-exactly : tie.Need-slice-aggregate-decode-exactly
 slice-aggregate-decode-exactly c = search needs
@@ -82,15 +77,15 @@ decode-exactly-requires c κs =
     let s = c .before .before .before .before .before .before .before .before .before .before .before .before .before .before .before .before .before .before .before .before in
     let a = s .args in
     let l = long (c .before .before .before .before .before .before) in (
-      decode-ready (F s) (M s) (sym (answered (c .before .before .before .before .before .before .before .before .before .before)) ∙ good) .0,
+      decode-ready (F s) (M s) (c .before .before .before .before .before .before .before .before .before .before .accept .ensures) good,
       (
-        accepted-degrees {F = F s} (c .before .before .before .before .before .before .before .before .before .before .accept .ensures) good,
+        decode-degrees (F s) (M s) (c .before .before .before .before .before .before .before .before .before .before .accept .ensures) good,
         (length-take-le (a .n) (a .levels .now) (l .0), length-take-le (length (a .columns .now) / wide) (a .variable-messages .now) (l .1), length-take-le (length (a .columns .now) / wide) (a .check-messages .now) (l .2), length-take-le (4 * a .n) (a .sums .now) (l .3), length-take-le (a .n) (a .bits .now) (l .4)),
       ),
     )
 
 returns : tie.Need-returns
-returns c = let s = c .before .before .before .before .before .before .before .before .before .before .before .before .before .before in decodes-refused (F s) (M s) (sym (answered (c .before .before .before .before)) ∙ c .before .c .given .1)
+returns c = let s = c .before .before .before .before .before .before .before .before .before .before .before .before .before .before in decodes-alike (F s) (M s) (omega arith) (decodes-refused (F s) (M s) (c .before .before .before .before .accept .ensures) (c .before .c .given .1))
 
 same-length : tie.Need-same-length
 same-length c = search needs
@@ -110,7 +105,7 @@ same-length-5 c = search needs
 returns-2 : tie.Need-returns-2
 returns-2 c =
     let s = c .before .before .before .before .before .before .before .before .before .before .before .before .before .before .before .before .before .before .before .before .before .before .before .before .before .before .before .before .before .before .before in
-    decodes-ran (F s) (M s) (sym (answered (c .before .before .before .before .before .before .before .before .before .before .before .before .before .before .before .before .before .before .before .before .before)) ∙ c .before .before .before .before .before .before .before .before .before .before .before .before .before .before .before .before .before .before .c2 .given .1) (run-into (M s) (c .before .before .before .before .before .before .before .before .before .before .decode-exactly .ensures))
+    decodes-alike (F s) (M s) (omega arith) (decodes-ran (F s) (M s) (c .before .before .before .before .before .before .before .before .before .before .before .before .before .before .before .before .before .before .before .before .before .accept .ensures) (c .before .before .before .before .before .before .before .before .before .before .before .before .before .before .before .before .before .before .c2 .given .1) (run-into (M s) (c .before .before .before .before .before .before .before .before .before .before .decode-exactly .ensures)))
 
 pub decode-spec : {M : Type 1} → statement M
 decode-spec =
