@@ -1,11 +1,11 @@
 -- The check of a graph where a list is lent for its degrees: how it stands to the check without.
-use mathlib.Core.Path.{_≡_, refl, sym, _∙_}
+use mathlib.Core.Path.{_≡_, refl, sym, ap, _∙_}
 use mathlib.Core.Bool.{Bool, true}
 use mathlib.Core.List.{List, _++_}
-use Prim.Native.Nat.{ℕ, _*_, _≤_, _<_}
+use Prim.Native.Nat.{ℕ, _*_, _^_, _≤_, _<_}
 use native.Mathlib.Omega.{arith}
 use borrow.Author.Tests.{le-leb, lt-leb}
-use lib.Dec.{leb}
+use lib.Dec.{eqb, leb}
 use lib.ListN.{length, drop}
 use Rattle.rules.specs.Graphs.{Graph, Limits, AdmittedWithin, variableDegree}
 use Rattle.rules.specs.Refusals.{unless, orElse}
@@ -14,7 +14,13 @@ use Rattle.rules.specs.declared.Judged.the-variants.{Admitted, Refused}
 use Rattle.rules.specs.declared.Refusal.{Refusal}
 use Rattle.rules.specs.declared.Refusal.the-variants.{Buffer}
 use Rattle.rules.proofs.Judging.{orElse-left, orElse-right}
+use Rattle.rules.proofs.Ranges.{count-le}
 use Rattle.words.specs.Words.{table}
+use Rattle.words.specs.Roles.{degreeAt}
+use Rattle.words.proofs.Words.{at-table}
+use Rattle.degrees.specs.Counting.{tally}
+use Rattle.degrees.specs.Judging.{variablesJudged}
+use Rattle.degrees.proofs.Alike.{variables-alike}
 use Rattle.graph.specs.Judging.{countsJudged, startsJudged, columnsJudged, rowsJudged, checkDegreesJudged, variableDegreesJudged, graphJudged, shapeJudged, degreesJudged, countable, graphJudgedIn}
 use Rattle.graph.specs.Degrees.{degreesIn, Checks, Judges, LentAlike}
 use Rattle.graph.proofs.Parts.{counts-told}
@@ -42,12 +48,12 @@ module _ {L : Limits} (G : Graph) where
 
   -- ---- 5, where it ends
 
-  module _ {now : List ℕ} (counted : now ≡ table 4 (variableDegree G) (G .variables)) where
-    pub judges-refused : {r : Refusal} → checkDegreesJudged L G ≡ Refused r → Judges L G (Refused r) now
+  module _ {old now : List ℕ} (counted : now ≡ table 4 (variableDegree G) (G .variables) ++ drop (4 * G .variables) old) where
+    pub judges-refused : {r : Refusal} → checkDegreesJudged L G ≡ Refused r → Judges L G (Refused r) old now
     unfolding degreesJudged
     judges-refused h = record { answer = sym (rw h); degrees = counted }
 
-    pub judges-last : {r : Judged} → checkDegreesJudged L G ≡ Admitted → r ≡ variableDegreesJudged L G → Judges L G r now
+    pub judges-last : {r : Judged} → checkDegreesJudged L G ≡ Admitted → r ≡ variableDegreesJudged L G → Judges L G r old now
     unfolding degreesJudged
     judges-last h q = record { answer = q ∙ sym (rw h); degrees = counted }
 
@@ -64,12 +70,31 @@ module _ {L : Limits} (G : Graph) where
         let short = lt-leb (4 * G .variables) (length old) l in
         record { answer = sym (rw (shape, short)); degrees = sym (rw (shape, short)) }
 
-    pub checks-judged : {r : Judged} {now : List ℕ} → 4 * G .variables ≤ length old → Judges L G r now
-        → Checks L G r old (now ++ drop (4 * G .variables) old)
+    pub checks-judged : {r : Judged} {now : List ℕ} → 4 * G .variables ≤ length old → Judges L G r old now → Checks L G r old now
     unfolding countable graphJudgedIn
     checks-judged l j =
         let enough = le-leb (4 * G .variables) (length old) l in
-        record { answer = j .answer ∙ sym (rw (shape, enough)); degrees = rw (j .degrees, shape, enough) }
+        record { answer = j .answer ∙ sym (rw (shape, enough)); degrees = j .degrees ∙ sym (rw (shape, enough)) }
+
+-- the degrees off the list
+pub degree-at : (G : Graph) (v : ℕ) (old : List ℕ) {now : List ℕ} → now ≡ table 4 (variableDegree G) (G .variables) ++ drop (4 * G .variables) old → v < G .variables
+    → G .entries < 2 ^ 32 → degreeAt now v ≡ variableDegree G v
+unfolding variableDegree
+degree-at G v old e l h =
+    ap (λ b. degreeAt b v) e
+    ∙ at-table 4 (variableDegree G) (G .variables) (drop (4 * G .variables) old) v l (omega (arith, count-le (λ e. eqb (G .column e) v) 0 (G .entries)))
+
+-- all entries are counted
+pub counted-all : (G : Graph) (old : List ℕ) {now : List ℕ} → now ≡ table 4 (tally (G .column) (G .entries)) (G .variables) ++ drop (4 * G .variables) old
+    → now ≡ table 4 (variableDegree G) (G .variables) ++ drop (4 * G .variables) old
+unfolding variableDegree
+counted-all G old h = h
+
+-- 5 for the variables, off the list
+pub variables-off : (L : Limits) (G : Graph) (old : List ℕ) {now : List ℕ} {m n : ℕ} → now ≡ table 4 (variableDegree G) (G .variables) ++ drop (4 * G .variables) old
+    → G .entries < 2 ^ 32 → m ≡ G .checks → n ≡ G .variables → variablesJudged L m (degreeAt now) n ≡ variableDegreesJudged L G
+unfolding variableDegreesJudged
+variables-off L G old e h p q = variables-alike L p q (λ v l. degree-at G v old e (omega (arith, q)) h)
 
 -- ---- beside the check without such a list
 

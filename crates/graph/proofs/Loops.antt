@@ -9,10 +9,10 @@ use borrow.Author.Tests.{lt-ltb, le-ltb}
 use lib.Dec.{ltb}
 use lib.ListN.{take, drop}
 use Rattle.words.specs.Roles.{wide}
-use Rattle.rules.specs.Graphs.{Graph, Limits, leastCheckDegree, leastVariableDegree, variableDegree}
+use Rattle.rules.specs.Graphs.{Graph, Limits, leastCheckDegree, leastVariableDegree, variableDegree, between}
 use Rattle.rules.specs.declared.Judged.{Judged}
 use Rattle.rules.specs.declared.Judged.the-variants as Judgement
-use Rattle.graph.specs.Judging.{between, startFits, spanJudged}
+use Rattle.graph.specs.Judging.{startFits, spanJudged}
 use Rattle.graph.specs.Calls.{partOf}
 use Rattle.graph.proofs.Parts.{startTest, rowJudged, checkTest, variableTest}
 

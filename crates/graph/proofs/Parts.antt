@@ -6,13 +6,13 @@ use native.Mathlib.Numerals.{add-one, unary-clauses}
 use native.Mathlib.Omega.{arith}
 use borrow.Author.Tests.{ltb-true, leb-true, eqb-true, lt-ltb, le-leb, eq-eqb}
 use lib.Dec.{eqb, leb, ltb}
-use Rattle.rules.specs.Graphs.{Graph, Limits, fewestVariables, fewestChecks, leastCheckDegree, leastVariableDegree, checkDegree, variableDegree}
+use Rattle.rules.specs.Graphs.{Graph, Limits, fewestVariables, fewestChecks, leastCheckDegree, leastVariableDegree, checkDegree, variableDegree, between}
 use Rattle.rules.specs.Refusals.{unless, orElse}
 use Rattle.rules.specs.declared.Judged.{Judged}
 use Rattle.rules.specs.declared.Judged.the-variants as Judgement
 use Rattle.rules.specs.declared.Refusal.the-variants.{Count, Range, Order, Degree, Start}
 use Rattle.rules.proofs.Judging.{orElse-left, orElse-right, unless-true, each-is, each-all, all-true, true-all, and-left, and-right, and-both}
-use Rattle.graph.specs.Judging.{between, startFits, spanJudged, countsJudged, startsJudged, columnsJudged, rowsJudged, checkDegreesJudged, variableDegreesJudged}
+use Rattle.graph.specs.Judging.{startFits, spanJudged, countsJudged, startsJudged, columnsJudged, rowsJudged, checkDegreesJudged, variableDegreesJudged}
 
 -- ---- tests
 

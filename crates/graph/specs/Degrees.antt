@@ -2,18 +2,12 @@
 use mathlib.Core.Path.{_≡_}
 use mathlib.Core.List.{List, _++_}
 use Prim.Native.Nat.{ℕ, _*_, _≤_}
-use lib.Dec.{eqb}
 use lib.ListN.{length, drop}
-use Rattle.rules.specs.Ranges.{count}
 use Rattle.rules.specs.Graphs.{Graph, Limits, variableDegree}
 use Rattle.rules.specs.declared.Judged.{Judged}
 use Rattle.rules.specs.declared.Judged.the-variants as Judgement
 use Rattle.words.specs.Words.{table}
 use Rattle.graph.specs.Judging.{graphJudged, degreesJudged, countable, graphJudgedIn}
-
--- How many of the first e columns name variable v. Of all the columns, that is its degree.
-unfoldable pub named : (ℕ → ℕ) → ℕ → ℕ → ℕ
-named column e v = count (λ k. eqb (column k) v) 0 e
 
 -- 'It holds the degrees after every call that came as far as 5, refused or not, and is unchanged otherwise.' Bytes past n numbers do not
 -- change.
@@ -26,10 +20,10 @@ pub record Checks (L : Limits) (G : Graph) (r : Judged) (old now : List ℕ) : T
   pub answer : r ≡ graphJudgedIn L G (length old)
   pub degrees : now ≡ degreesIn (countable L G (length old)) G old
 
--- 5, in a list of exactly n numbers.
-pub record Judges (L : Limits) (G : Graph) (r : Judged) (now : List ℕ) : Type 0 where
+-- 5, in a list that is long enough.
+pub record Judges (L : Limits) (G : Graph) (r : Judged) (old now : List ℕ) : Type 0 where
   pub answer : r ≡ degreesJudged L G
-  pub degrees : now ≡ table 4 (variableDegree G) (G .variables)
+  pub degrees : now ≡ table 4 (variableDegree G) (G .variables) ++ drop (4 * G .variables) old
 
 -- 'Graphs within the old limits get the same answers as before where that list is long enough': a list for the most variables that L
 -- allows changes no answer.

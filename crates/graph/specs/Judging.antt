@@ -2,13 +2,11 @@
 use mathlib.Core.Bool.{Bool, not, _&&_, _||_}
 use Prim.Native.Nat.{ℕ, suc, _+_, _*_, _-_}
 use lib.Dec.{eqb, leb, ltb}
-use Rattle.rules.specs.Graphs.{Graph, Limits, fewestVariables, fewestChecks, leastCheckDegree, leastVariableDegree, checkDegree, variableDegree}
+use Rattle.rules.specs.Graphs.{Graph, Limits, fewestVariables, fewestChecks, leastCheckDegree, between, checkDegree, variableDegree}
 use Rattle.rules.specs.Refusals.{unless, orElse, each}
 use Rattle.rules.specs.declared.Judged.{Judged}
+use Rattle.degrees.specs.Judging.{variablesJudged}
 use Rattle.rules.specs.declared.Refusal.the-variants.{Count, Range, Order, Degree, Buffer, Start}
-
-abbrev pub between : ℕ → ℕ → ℕ → Bool
-between low x high = leb low x && leb x high
 
 -- Start i of m, which is s, where the one before is last: 0 at the front, not below last, E at the end. (At the front last is s.)
 abbrev pub startFits : ℕ → ℕ → ℕ → ℕ → ℕ → Bool
@@ -44,7 +42,7 @@ module _ (L : Limits) (G : Graph) where
   checkDegreesJudged = each (λ i. unless (between leastCheckDegree (checkDegree G i) (L .checkDegree)) (Degree i)) (G .checks)
 
   unfoldable pub variableDegreesJudged : Judged
-  variableDegreesJudged = each (λ v. unless (between leastVariableDegree (variableDegree G v) (L .variableDegree)) (Degree (G .checks + v))) (G .variables)
+  variableDegreesJudged = variablesJudged L (G .checks) (variableDegree G) (G .variables)
 
   -- 'Check a graph': 2, 7, 3, 4, 5.
   unfoldable pub graphJudged : Judged

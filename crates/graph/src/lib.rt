@@ -1,24 +1,20 @@
 // The check of a graph, the row of a check, and the count of odd checks.
 ghost use mathlib.Core.Path.{_≡_};
+ghost use mathlib.Core.List.{_++_};
 ghost use Prim.Native.Nat.{ℕ, _*_, _-_, _/_, _^_, _≤_, _<_};
-ghost use lib.ListN.{length};
-ghost use Rattle.rules.specs.Graphs.{limits, variableDegree};
+ghost use lib.ListN.{length, drop};
+ghost use Rattle.rules.specs.Graphs.{limits};
 ghost use Rattle.rules.specs.declared.Judged.the-variants as Judgement;
 ghost use Rattle.words.specs.Words.{table};
 ghost use Rattle.words.specs.Roles.{wide, columnAt, graphOf};
-ghost use Rattle.graph.specs.Judging.{between, countsJudged, startFits, startsJudged, columnsJudged, spanJudged, rowsJudged, checkDegreesJudged, variableDegreesJudged, graphJudged, shapeJudged};
+ghost use Rattle.graph.specs.Judging.{countsJudged, startFits, startsJudged, columnsJudged, spanJudged, rowsJudged, checkDegreesJudged, graphJudged, shapeJudged};
 ghost use Rattle.graph.specs.Calls.{rowJudgement, partOf, bytesJudged, bitsJudged, oddAnswer};
-ghost use Rattle.graph.specs.Degrees.{named, Checks, Judges};
+ghost use Rattle.degrees.specs.Counting.{tally};
+ghost use Rattle.graph.specs.Degrees.{Checks, Judges};
 use rules::Judged;
 use rules::Refusal;
 
 // ---- check a graph
-
-fn in_range(low: usize, x: usize, high: usize) -> bool
-    ensures { λ r. ⌜ r ≡ between low x high ⌝ }
-{
-    (low <= x) & (x <= high)
-}
 
 // How many checks the starts make.
 fn checks(starts: &[u8]) -> usize
@@ -32,10 +28,10 @@ fn checks(starts: &[u8]) -> usize
 fn check_counts(n: usize, starts: &[u8], columns: &[u8]) -> Judged
     ensures { λ r. ⌜ r ≡ countsJudged limits (graphOf n (now (starts .entry)) (now (columns .entry))) ⌝ }
 {
-    if !in_range(rules::FEWEST_VARIABLES, n, rules::MOST_VARIABLES) {
+    if !rules::in_range(rules::FEWEST_VARIABLES, n, rules::MOST_VARIABLES) {
         return Judged::Refused(Refusal::Count(0));
     }
-    if !in_range(rules::FEWEST_CHECKS, checks(starts), rules::MOST_CHECKS) {
+    if !rules::in_range(rules::FEWEST_CHECKS, checks(starts), rules::MOST_CHECKS) {
         return Judged::Refused(Refusal::Count(0));
     }
     if rules::MOST_ENTRIES < columns.len() / words::WIDE {
@@ -130,7 +126,7 @@ fn check_degrees(n: usize, starts: &[u8], columns: &[u8]) -> Judged
     let m = checks(starts);
     let mut i = 0;
     while i < m {
-        if !in_range(
+        if !rules::in_range(
             rules::LEAST_CHECK_DEGREE,
             words::start(starts, i + 1) - words::start(starts, i),
             rules::LARGEST_CHECK_DEGREE,
@@ -142,67 +138,33 @@ fn check_degrees(n: usize, starts: &[u8], columns: &[u8]) -> Judged
     Judged::Admitted
 }
 
-// Makes the n degrees 0.
-fn clear_degrees(n: usize, degrees: &mut [u8])
-    requires { ⌜ length (now degrees) ≡ 4 * n ⌝ }
-    ensures { λ _. ⌜ now (degrees .exit) ≡ table 4 (λ v. 0) n ⌝ }
-{
-    let mut v = 0;
-    while v < n {
-        words::put_degree(degrees, v, 0);
-        v += 1;
-    }
-}
-
-// Adds one, for each entry, to the degree of its variable.
-fn add_entries(n: usize, columns: &[u8], degrees: &mut [u8])
-    requires { ⌜ (now degrees ≡ table 4 (λ v. 0) n) × (length (now columns) / wide < 2 ^ 32) ⌝ }
+// Counts the degrees of n variables, of every entry one for its variable.
+fn count_degrees(n: usize, columns: &[u8], degrees: &mut [u8])
+    requires { ⌜ (n ≤ length (now degrees) / 4) × (length (now columns) / wide < 2 ^ 32 - 1) ⌝ }
     requires { ⌜ ((e : ℕ) → e < length (now columns) / wide → columnAt (now columns) e < n) ⌝ }
-    ensures { λ _. ⌜ now (degrees .exit) ≡ table 4 (named (columnAt (now (columns .entry))) (length (now (columns .entry)) / wide)) n ⌝ }
+    ensures { λ _. ⌜ now (degrees .exit) ≡ table 4 (tally (columnAt (now (columns .entry))) (length (now (columns .entry)) / wide)) n ++ drop (4 * n) (now (degrees .entry)) ⌝ }
 {
+    degrees::clear(degrees, n);
     let count = columns.len() / words::WIDE;
     let mut e = 0;
     while e < count {
-        let v = words::column(columns, e);
-        words::put_degree(degrees, v, (words::degree(degrees, v) + 1) as u32);
+        degrees::add_one(degrees, words::column(columns, e));
         e += 1;
     }
-}
-
-// 5: the degrees of the variables, by the list of them.
-fn variable_degrees(n: usize, starts: &[u8], columns: &[u8], degrees: &[u8]) -> Judged
-    requires { ⌜ countsJudged limits (graphOf n (now starts) (now columns)) ≡ Judgement.Admitted ⌝ }
-    requires { ⌜ now degrees ≡ table 4 (variableDegree (graphOf n (now starts) (now columns))) n ⌝ }
-    ensures { λ r. ⌜ r ≡ variableDegreesJudged limits (graphOf n (now (starts .entry)) (now (columns .entry))) ⌝ }
-{
-    let m = checks(starts);
-    let mut v = 0;
-    while v < n {
-        if !in_range(
-            rules::LEAST_VARIABLE_DEGREE,
-            words::degree(degrees, v),
-            rules::LARGEST_VARIABLE_DEGREE,
-        ) {
-            return Judged::Refused(Refusal::Degree(m + v));
-        }
-        v += 1;
-    }
-    Judged::Admitted
 }
 
 // 5: counts the variables' degrees, then judges those of the checks and of the variables.
 fn judge_degrees(n: usize, starts: &[u8], columns: &[u8], degrees: &mut [u8]) -> Judged
     requires { ⌜ shapeJudged limits (graphOf n (now starts) (now columns)) ≡ Judgement.Admitted ⌝ }
-    requires { ⌜ length (now degrees) ≡ 4 * n ⌝ }
-    ensures { λ r. ⌜ Judges limits (graphOf n (now (starts .entry)) (now (columns .entry))) r (now (degrees .exit)) ⌝ }
+    requires { ⌜ n ≤ length (now degrees) / 4 ⌝ }
+    ensures { λ r. ⌜ Judges limits (graphOf n (now (starts .entry)) (now (columns .entry))) r (now (degrees .entry)) (now (degrees .exit)) ⌝ }
 {
-    clear_degrees(n, degrees);
-    add_entries(n, columns, degrees);
+    count_degrees(n, columns, degrees);
     let j = check_degrees(n, starts, columns);
     if let Judged::Refused(r) = j {
         return Judged::Refused(r);
     }
-    variable_degrees(n, starts, columns, degrees)
+    degrees::judge(checks(starts), n, degrees)
 }
 
 // 2, 7, 3, 4: all that comes before the degrees.
@@ -235,8 +197,7 @@ pub fn check_into(n: usize, starts: &[u8], columns: &[u8], degrees: &mut [u8]) -
     if degrees.len() / 4 < n {
         return Judged::Refused(Refusal::Buffer);
     }
-    let w = 4 * n;
-    judge_degrees(n, starts, columns, &mut degrees[..w])
+    judge_degrees(n, starts, columns, degrees)
 }
 
 // Whether a graph is admitted.

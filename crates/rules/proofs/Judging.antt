@@ -10,7 +10,7 @@ use Rattle.rules.specs.Refusals.{unless, orElse, each}
 use Rattle.rules.specs.declared.Refusal.{Refusal}
 use Rattle.rules.specs.declared.Judged.{Judged}
 use Rattle.rules.specs.declared.Judged.the-variants.{Admitted, Refused}
-use Rattle.rules.proofs.Ranges.{fold-none, fold-next}
+use Rattle.rules.proofs.Ranges.{fold-none, fold-next, fold-ext}
 
 -- ---- one after the other
 
@@ -64,6 +64,11 @@ each-is j (suc n) h k l =
 pub each-all : (j : ℕ → Judged) (n : ℕ) → ((k : ℕ) → k < n → j k ≡ Admitted) → each j n ≡ Admitted
 each-all j zero h = each-none j
 each-all j (suc n) h = ap (each j) (sym (add-one n)) ∙ each-more j n (each-all j n (λ k l. h k (omega arith))) (h n (omega arith))
+
+-- the same at every index
+pub each-same : (j k : ℕ → Judged) (n : ℕ) → ((i : ℕ) → i < n → j i ≡ k i) → each j n ≡ each k n
+unfolding each
+each-same j k n h = fold-ext orElse Admitted j k 0 n (λ i _ l. h i (omega arith))
 
 -- what holds of every refusal that some index gives holds of the first
 pub each-from : (P : Refusal → Type 0) (j : ℕ → Judged) (n : ℕ) → ((k : ℕ) (r : Refusal) → j k ≡ Refused r → P r)

@@ -1,8 +1,8 @@
 -- Document 01, 'Graph': the parity-check graph, and codewords.
 use mathlib.Core.Path.{_≡_}
-use mathlib.Core.Bool.{Bool, false, xor}
+use mathlib.Core.Bool.{Bool, false, xor, _&&_}
 use Prim.Native.Nat.{ℕ, suc, _+_, _-_, _≤_, _<_}
-use lib.Dec.{eqb, ltb}
+use lib.Dec.{eqb, leb, ltb}
 use Rattle.rules.specs.Ranges.{fold, count, first}
 
 -- 'Variables are numbered 0 to n-1, checks 0 to m-1. Two u16 lists hold the graph: m+1 row starts, and E columns in check order.'
@@ -53,6 +53,10 @@ leastCheckDegree = 2
 
 abbrev pub leastVariableDegree : ℕ
 leastVariableDegree = 1
+
+-- Whether x lies within its limits.
+abbrev pub between : ℕ → ℕ → ℕ → Bool
+between low x high = leb low x && leb x high
 
 -- A graph within limits L, with starts that begin at 0 and end at E, columns below n, and 'each row's columns strictly rising'.
 pub record AdmittedWithin (L : Limits) (G : Graph) : Type 0 where

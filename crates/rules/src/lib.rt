@@ -1,5 +1,6 @@
 // The limits of a graph, and the answers' types. What they mean is in specs/.
 ghost use mathlib.Core.Path.{_≡_};
+ghost use Rattle.rules.specs.Graphs.{between};
 ghost use Rattle.rules.specs.Refusals.{paper};
 
 // The limits of a graph: `limits` of specs/Graphs, and the least numbers beside it.
@@ -20,6 +21,13 @@ pub const LARGEST_CHECK_DEGREE: usize = 64;
 pub const LEAST_VARIABLE_DEGREE: usize = 1;
 
 pub const LARGEST_VARIABLE_DEGREE: usize = 32;
+
+// Whether x lies within its limits.
+pub fn in_range(low: usize, x: usize, high: usize) -> bool
+    ensures { λ r. ⌜ r ≡ between low x high ⌝ }
+{
+    (low <= x) & (x <= high)
+}
 
 // The limits of the program's sheets: `programLimits`.
 pub const PROGRAM_VARIABLES: usize = 8192;

@@ -7,14 +7,13 @@ use native.Mathlib.Nat.{add-zero}
 use native.Mathlib.Omega.{arith}
 use borrow.Author.Tests.{le-leb, lt-leb, le-ltb, lt-ltb}
 use lib.Dec.{leb}
-use Rattle.rules.specs.Graphs.{limits, leastCheckDegree}
+use Rattle.rules.specs.Graphs.{limits, leastCheckDegree, between}
 use Rattle.rules.specs.Refusals.{unless, orElse, each}
 use Rattle.rules.specs.declared.Refusal.{Refusal}
 use Rattle.rules.specs.declared.Refusal.the-variants.{Degree}
 use Rattle.rules.specs.declared.Judged.{Judged}
 use Rattle.rules.specs.declared.Judged.the-variants.{Refused}
 use Rattle.rules.proofs.Judging.{each-next, each-at}
-use Rattle.graph.specs.Judging.{between}
 use Rattle.sheet.specs.Storing.{rowJudged, lowestPassed, GoesOn}
 use Rattle.sheet.specs.declared.Rows.{Rows}
 

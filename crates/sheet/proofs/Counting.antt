@@ -14,7 +14,8 @@ use Rattle.rules.specs.declared.Judged.the-variants.{Admitted, Refused}
 use Rattle.rules.proofs.Judging.{each-none}
 use Rattle.words.specs.Words.{stored, table}
 use Rattle.words.specs.Roles.{degreeAt}
-use Rattle.words.proofs.Tallies.{tally, Tallies, Cleared, tallies-none, tallies-long, tallies-small, tallies-more, tallies-from}
+use Rattle.degrees.specs.Counting.{tally}
+use Rattle.degrees.proofs.Tallies.{Tallies, Cleared, tallies-none, tallies-long, tallies-small, tallies-more, tallies-from}
 use Rattle.graph.specs.Judging.{checkDegreesJudged}
 use Rattle.lines.specs.Lines.{line}
 use Rattle.lines.specs.Places.{LineRead}

@@ -5,23 +5,19 @@ use Prim.Native.Nat.{ℕ, suc, _+_, _-_, _<_}
 use native.Mathlib.Omega.{arith}
 use lib.Dec.{eqb}
 use Rattle.rules.specs.Ranges.{count}
-use Rattle.rules.specs.Graphs.{Graph, Limits, AdmittedWithin, leastCheckDegree, leastVariableDegree, checkDegree, variableDegree}
-use Rattle.rules.specs.Refusals.{unless, orElse, each}
+use Rattle.rules.specs.Graphs.{Graph, Limits, AdmittedWithin, leastCheckDegree, leastVariableDegree, checkDegree, variableDegree, between}
+use Rattle.rules.specs.Refusals.{unless, each}
 use Rattle.rules.specs.declared.Refusal.the-variants.{Degree}
-use Rattle.rules.specs.declared.Judged.{Judged}
 use Rattle.rules.specs.declared.Judged.the-variants as Judgement
-use Rattle.rules.proofs.Ranges.{count-ext, fold-ext}
-use Rattle.graph.specs.Judging.{between, checkDegreesJudged, variableDegreesJudged}
+use Rattle.rules.proofs.Ranges.{count-ext}
+use Rattle.rules.proofs.Judging.{each-same}
+use Rattle.graph.specs.Judging.{checkDegreesJudged, variableDegreesJudged}
 use Rattle.graph.proofs.Parts.{checkTest, variableTest, check-degrees-told, variable-degrees-told}
 use Rattle.lines.specs.Lines.{Pair, pair}
 use Rattle.sheet_text.specs.Reading.{graphIn}
 use Rattle.sheet_text.proofs.Sheets.{Lined, counts-told}
 use Rattle.sheet_text.proofs.Entries.{start-zero, start-end, column-within, column-rise}
 use Rattle.sheet.specs.Theorems.{Same}
-
-pub each-same : (j k : ℕ → Judged) (n : ℕ) → ((i : ℕ) → i < n → j i ≡ k i) → each j n ≡ each k n
-unfolding each
-each-same j k n h = fold-ext orElse Judgement.Admitted j k 0 n (λ i _ l. h i (omega arith))
 
 module _ (G H : Graph) (s : Same G H) where
   pub same-check-degree : (i : ℕ) → i < H .checks → checkDegree G i ≡ checkDegree H i

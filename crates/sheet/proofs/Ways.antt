@@ -1,30 +1,28 @@
 -- Each way out after the last line gives what the definition says of the answer and of the lists.
-use mathlib.Core.Path.{_≡_, refl, sym, ap, ap₂, _∙_}
+use mathlib.Core.Path.{_≡_, refl, sym, ap, _∙_}
 use mathlib.Core.Bool.{Bool, false, true, _&&_}
 use mathlib.Core.List.{List}
-use Prim.Native.Nat.{ℕ, suc, _+_, _*_, _/_, _≤_, _<_}
+use Prim.Native.Nat.{ℕ, suc, _*_, _/_, _≤_, _<_}
 use native.Mathlib.Omega.{arith}
 use borrow.Author.Tests.{le-leb, lt-leb, leb-true}
-use lib.Dec.{eqb, leb}
-use lib.ListN.{length, drop}
-use Rattle.rules.specs.Graphs.{Graph, limits, leastVariableDegree, variableDegree}
+use lib.Dec.{leb}
+use lib.ListN.{length}
+use Rattle.rules.specs.Graphs.{Graph, limits}
 use Rattle.rules.specs.Refusals.{unless}
 use Rattle.rules.specs.declared.Refusal.{Refusal}
-use Rattle.rules.specs.declared.Refusal.the-variants.{Buffer, Degree}
+use Rattle.rules.specs.declared.Refusal.the-variants.{Buffer}
 use Rattle.rules.specs.declared.Judged.{Judged}
 use Rattle.rules.specs.declared.Judged.the-variants as Judgement
-use Rattle.rules.proofs.Ranges.{count-le}
 use Rattle.rules.proofs.Judging.{orElse-right, unless-true, and-left, and-right}
-use Rattle.words.specs.Words.{word}
 use Rattle.words.specs.Roles.{wide, degreeAt}
-use Rattle.words.proofs.Words.{at-table}
-use Rattle.graph.specs.Judging.{between, variableDegreesJudged}
+use Rattle.degrees.specs.Judging.{variablesJudged}
+use Rattle.graph.proofs.Lending.{variables-off}
+use Rattle.graph.specs.Judging.{variableDegreesJudged}
 use Rattle.sheet_text.specs.Reading.{Lines}
 use Rattle.sheet_text.specs.declared.Counts.{Counts}
 use Rattle.sheet.specs.Reading.{graph, roomFor, roomForDegrees, degreesJudged, afterLines, degreesIn, answerOf}
-use Rattle.sheet.specs.Storing.{linesGraph, graphFrom, EntriesAt, Stores, CountedInto, variablesJudged, AfterLines, Finished}
+use Rattle.sheet.specs.Storing.{linesGraph, graphFrom, EntriesAt, Stores, CountedInto, AfterLines, Finished}
 use Rattle.sheet.specs.declared.Sheet.the-variants as Answer
-use Rattle.sheet.proofs.Degrees.{each-same}
 
 and-no : (a : Bool) → a && false ≡ false
 and-no true = refl
@@ -61,22 +59,11 @@ module _ {t : List ℕ} {k : Counts} {at : ℕ} (h : EntriesAt t k at) where
     checks-refused e = record { judged = rw (fit, sym (q .judged) ∙ e); degrees = held }
 
     -- the variables' degrees, off the list
-    degree-at : (v : ℕ) → v < k .variables → degreeAt d′ v ≡ variableDegree G v
-    unfolding variableDegree
-    degree-at v l =
-        ap (λ (b : List ℕ). word 4 b (4 * v)) (q .degrees)
-        ∙ at-table 4 (variableDegree G) (G .variables) (drop (4 * G .variables) d) v (omega (arith, counts-are))
-        (omega (arith, counts-are, h .small .entries, count-le (λ e. eqb (G .column e) v) 0 (G .entries)))
-
-    variables-are : variablesJudged (k .checks) (degreeAt d′) (k .variables) ≡ variableDegreesJudged limits G
-    unfolding variableDegreesJudged
+    variables-are : variablesJudged limits (k .checks) (degreeAt d′) (k .variables) ≡ variableDegreesJudged limits G
     variables-are =
-        each-same (λ v. unless (between leastVariableDegree (degreeAt d′ v) (limits .variableDegree)) (Degree (k .checks + v)))
-        (λ v. unless (between leastVariableDegree (variableDegree G v) (limits .variableDegree)) (Degree (G .checks + v))) (k .variables)
-        (λ v l. ap₂ (λ (x m : ℕ). unless (between leastVariableDegree x (limits .variableDegree)) (Degree (m + v))) (degree-at v l) (sym (counts-are .1)))
-        ∙ ap (variablesJudged (G .checks) (variableDegree G)) (sym (counts-are .0))
+        variables-off limits G d (q .degrees) (omega (arith, counts-are, h .small .entries)) (omega (arith, counts-are)) (omega (arith, counts-are))
 
-    module _ (a : j ≡ Judgement.Admitted) {i : Judged} (v : i ≡ variablesJudged (k .checks) (degreeAt d′) (k .variables)) where
+    module _ (a : j ≡ Judgement.Admitted) {i : Judged} (v : i ≡ variablesJudged limits (k .checks) (degreeAt d′) (k .variables)) where
       degrees-are : degreesJudged limits G ≡ i
       degrees-are = rw (sym (q .judged) ∙ a) (sym (v ∙ variables-are))
 

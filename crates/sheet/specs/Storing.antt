@@ -5,12 +5,12 @@ use mathlib.Core.List.{List, [], _++_}
 use Prim.Native.Nat.{ℕ, suc, _+_, _-_, _*_, _≤_, _<_}
 use lib.Dec.{leb, ltb}
 use lib.ListN.{length, drop}
-use Rattle.rules.specs.Graphs.{Graph, limits, leastCheckDegree, leastVariableDegree, variableDegree}
+use Rattle.rules.specs.Graphs.{Graph, limits, leastCheckDegree, variableDegree, between}
 use Rattle.rules.specs.Refusals.{unless, each}
 use Rattle.rules.specs.declared.Refusal.the-variants.{Degree}
 use Rattle.rules.specs.declared.Judged.{Judged}
 use Rattle.words.specs.Words.{table}
-use Rattle.graph.specs.Judging.{between, checkDegreesJudged}
+use Rattle.graph.specs.Judging.{checkDegreesJudged}
 use Rattle.lines.specs.Lines.{Pair, pair}
 use Rattle.sheet_text.specs.Reading.{Lines, refused, lines, rows, graphIn}
 use Rattle.sheet_text.specs.Scanning.{counted, UpTo}
@@ -63,10 +63,6 @@ pub record GoesOn (rows : Rows) (c k : ℕ) (r : Rows) : Type 0 where
   pub check : r .check ≡ c
   pub first : r .first ≤ k
   pub holds : (start : ℕ → ℕ) → RowsTo start rows → ((i : ℕ) → rows .check < i → i ≤ c → k ≡ start i) → RowsTo start r
-
--- The variables, where v has `degree v` entries and m checks stand before them.
-abbrev pub variablesJudged : ℕ → (ℕ → ℕ) → ℕ → Judged
-variablesJudged m degree n = each (λ v. unless (between leastVariableDegree (degree v) (limits .variableDegree)) (Degree (m + v))) n
 
 -- What is refused of the checks' degrees, and the variables' degrees in a list.
 pub record CountedInto (G : Graph) (r : Judged) (d d′ : List ℕ) : Type 0 where

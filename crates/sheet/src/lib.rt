@@ -1,16 +1,15 @@
 // Reads a code sheet into the two lists of a graph, and the degrees of its variables into a third.
 ghost use mathlib.Core.Path.{_≡_};
-ghost use mathlib.Core.List.{List, _++_};
+ghost use mathlib.Core.List.{List};
 ghost use Prim.Native.Nat.{ℕ, suc, _+_, _*_, _/_, _^_, _≤_, _<_};
-ghost use lib.ListN.{length, drop};
+ghost use lib.ListN.{length};
 ghost use Rattle.rules.specs.Graphs.{limits};
-ghost use Rattle.graph.specs.Judging.{between};
-ghost use Rattle.words.specs.Words.{stored, table};
-ghost use Rattle.words.specs.Roles.{wide, degreeAt};
+ghost use Rattle.words.specs.Words.{stored};
+ghost use Rattle.words.specs.Roles.{wide};
 ghost use Rattle.words.proofs.Filling.{Filled};
 ghost use Rattle.sheet_text.specs.Scanning.{within, UpTo};
 ghost use Rattle.sheet.specs.Reading.{sheetRead, readJudged, ReadAs, ReadInto, JudgedInto};
-ghost use Rattle.sheet.specs.Storing.{graphFrom, EntriesAt, Stores, lowestPassed, GoesOn, CountedInto, variablesJudged, AfterLines, Finished};
+ghost use Rattle.sheet.specs.Storing.{graphFrom, EntriesAt, Stores, lowestPassed, GoesOn, CountedInto, AfterLines, Finished};
 use rules::Judged;
 use rules::Refusal;
 use sheet_text::Counts;
@@ -63,12 +62,6 @@ struct Rows {
     first: usize,
 }
 
-fn in_range(low: usize, x: usize, high: usize) -> bool
-    ensures { λ r. ⌜ r ≡ between low x high ⌝ }
-{
-    (low <= x) & (x <= high)
-}
-
 // The lowest check that is refused, where check i has d entries, `low` is the lowest below it, and check i + 1 has none.
 fn lowest(low: usize, i: usize, d: usize) -> usize
     requires { ⌜ i ≤ limits .checks ⌝ }
@@ -77,7 +70,7 @@ fn lowest(low: usize, i: usize, d: usize) -> usize
     if low < i {
         return low;
     }
-    if !in_range(rules::LEAST_CHECK_DEGREE, d, rules::LARGEST_CHECK_DEGREE) {
+    if !rules::in_range(rules::LEAST_CHECK_DEGREE, d, rules::LARGEST_CHECK_DEGREE) {
         return i;
     }
     i + 1
@@ -98,34 +91,13 @@ fn go_on(rows: Rows, c: usize, k: usize) -> Rows
     }
 }
 
-// Makes the degrees of n variables 0.
-fn clear(degrees: &mut [u8], n: usize)
-    requires { ⌜ n ≤ length (now degrees) / 4 ⌝ }
-    ensures { λ _. ⌜ now (degrees .exit) ≡ table 4 (λ _. 0) n ++ drop (4 * n) (now (degrees .entry)) ⌝ }
-{
-    let mut v = 0;
-    while v < n {
-        words::put_degree(degrees, v, 0);
-        v += 1;
-    }
-}
-
-// Adds one to the degree of variable v.
-fn add_one(degrees: &mut [u8], v: usize)
-    requires { ⌜ (v < length (now degrees) / 4) × (degreeAt (now degrees) v + 1 < 2 ^ 32) ⌝ }
-    ensures { λ _. ⌜ now (degrees .exit) ≡ stored 4 (now (degrees .entry)) (4 * v) (degreeAt (now (degrees .entry)) v + 1) ⌝ }
-{
-    let d = words::degree(degrees, v);
-    words::put_degree(degrees, v, (d + 1) as u32);
-}
-
 // The pass that counts: the degrees of all variables, and what is refused of the checks'.
 fn count_entries(text: &[u8], at: usize, counts: Counts, degrees: &mut [u8]) -> Judged
     requires { ⌜ EntriesAt (now text) counts at ⌝ }
     requires { ⌜ counts .variables ≤ length (now degrees) / 4 ⌝ }
     ensures { λ r. ⌜ CountedInto (graphFrom (now (text .entry)) counts at) r (now (degrees .entry)) (now (degrees .exit)) ⌝ }
 {
-    clear(degrees, counts.variables);
+    degrees::clear(degrees, counts.variables);
     let mut i = at;
     let mut k: usize = 0;
     let mut rows = Rows {
@@ -135,7 +107,7 @@ fn count_entries(text: &[u8], at: usize, counts: Counts, degrees: &mut [u8]) -> 
     };
     while k < counts.entries {
         let line = lines::known_line_at(text, i);
-        add_one(degrees, line.second);
+        degrees::add_one(degrees, line.second);
         rows = go_on(rows, line.first, k);
         i = line.next;
         k += 1;
@@ -143,27 +115,6 @@ fn count_entries(text: &[u8], at: usize, counts: Counts, degrees: &mut [u8]) -> 
     let all = go_on(rows, counts.checks, k);
     if all.low < counts.checks {
         return Judged::Refused(Refusal::Degree(all.low));
-    }
-    Judged::Admitted
-}
-
-// What is refused of the variables' degrees, off the list.
-fn judge_variables(counts: Counts, degrees: &[u8]) -> Judged
-    requires { ⌜ UpTo counts limits × (counts .variables ≤ length (now degrees) / 4) ⌝ }
-    ensures { λ r. ⌜ r ≡ variablesJudged (counts .checks) (degreeAt (now (degrees .entry))) (counts .variables) ⌝ }
-{
-    let n = counts.variables;
-    let m = counts.checks;
-    let mut v = 0;
-    while v < n {
-        if !in_range(
-            rules::LEAST_VARIABLE_DEGREE,
-            words::degree(degrees, v),
-            rules::LARGEST_VARIABLE_DEGREE,
-        ) {
-            return Judged::Refused(Refusal::Degree(m + v));
-        }
-        v += 1;
     }
     Judged::Admitted
 }
@@ -189,7 +140,7 @@ fn judge_lines(
     if let Judged::Refused(r) = j {
         return Judged::Refused(r);
     }
-    let j = judge_variables(counts, degrees);
+    let j = degrees::judge(counts.checks, counts.variables, degrees);
     if let Judged::Refused(r) = j {
         return Judged::Refused(r);
     }

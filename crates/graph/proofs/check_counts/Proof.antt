@@ -2,8 +2,8 @@ use mathlib.Core.Path.{_≡_, sym, _∙_}
 use mathlib.Core.Bool.{true}
 use borrow.Author.Needs.{needs}
 use borrow.Author.Tests.{le-leb, lt-leb, not-true, not-false}
-use Rattle.rules.specs.Graphs.{Graph, limits, fewestVariables, fewestChecks}
-use Rattle.graph.specs.Judging.{between, countsJudged}
+use Rattle.rules.specs.Graphs.{Graph, limits, fewestVariables, fewestChecks, between}
+use Rattle.graph.specs.Judging.{countsJudged}
 use Rattle.words.specs.Roles.{graphOf}
 use Rattle.graph.proofs.check_counts.Statement.{statement}
 use Rattle.graph.proofs.check_counts.Tie as tie

@@ -1,7 +1,5 @@
 use mathlib.Core.Path.{_≡_, sym, _∙_}
-use Prim.Native.Nat.{_*_}
 use native.Mathlib.Omega.{arith}
-use lib.Seq.{length-take-le}
 use Rattle.rules.specs.Graphs.{Graph, limits}
 use Rattle.rules.specs.declared.Judged.the-variants as Judgement
 use Rattle.words.specs.Roles.{graphOf}
@@ -34,21 +32,8 @@ enum-told c = search needs
 returns-2 : tie.Need-returns-2
 returns-2 c = checks-short _ (c .before .before .before .before .before .before .before .args .degrees .now) (shape (c .before)) (omega arith)
 
-mul-w : tie.Need-mul-w
-mul-w c = search needs
-
-slice-relend-prefix-judge-degrees : tie.Need-slice-relend-prefix-judge-degrees
-slice-relend-prefix-judge-degrees c = search needs
-
-slice-aggregate-judge-degrees : tie.Need-slice-aggregate-judge-degrees
-slice-aggregate-judge-degrees c =
-    let a = c .before .before .before .before .before .before .before .before .args in
-    sym (length-take-le (4 * a .n) (a .degrees .now) (omega arith))
-
 judge-degrees-requires : tie.Need-judge-degrees-requires
-judge-degrees-requires c κs =
-    let a = c .before .before .before .before .before .before .before .before .args in
-    (shape (c .before .before), length-take-le (4 * a .n) (a .degrees .now) (omega arith))
+judge-degrees-requires c κs = (shape (c .before .before), omega arith)
 
 same-length : tie.Need-same-length
 same-length c = search needs
@@ -65,9 +50,6 @@ check-into-spec =
     returns
     enum-told
     returns-2
-    mul-w
-    slice-relend-prefix-judge-degrees
-    slice-aggregate-judge-degrees
     judge-degrees-requires
     same-length
     returns-3)

@@ -3,8 +3,8 @@ use mathlib.Core.Path.{refl}
 use native.Mathlib.Omega.{arith}
 use Rattle.words.proofs.Filling.{Filled, filled-none, filled-more, filled-end}
 use borrow.Author.Needs.{needs}
-use Rattle.sheet.proofs.clear.Statement.{statement}
-use Rattle.sheet.proofs.clear.Tie as tie
+use Rattle.degrees.proofs.clear.Statement.{statement}
+use Rattle.degrees.proofs.clear.Tie as tie
 
 abbrev Inv-loop : tie.InvT-loop
 Inv-loop degrees₀ n v₀ degrees v = (v ≤ n) × Filled 4 (λ _. 0) degrees₀ degrees v

@@ -2,8 +2,8 @@ use mathlib.Core.Path.{ap, _∙_}
 use Prim.Native.Nat.{ℕ, _+_, _*_}
 use Rattle.words.specs.Words.{stored}
 use borrow.Author.Needs.{needs}
-use Rattle.sheet.proofs.add_one.Statement.{statement}
-use Rattle.sheet.proofs.add_one.Tie as tie
+use Rattle.degrees.proofs.add_one.Statement.{statement}
+use Rattle.degrees.proofs.add_one.Tie as tie
 
 degree-requires : tie.Need-degree-requires
 degree-requires c κs = search needs

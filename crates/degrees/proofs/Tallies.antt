@@ -9,14 +9,11 @@ use borrow.Author.Tests.{eq-eqb, ne-eqb}
 use lib.Dec.{eqb}
 use lib.ListN.{length, drop, length-append}
 use lib.Seq.{drop-at}
-use Rattle.rules.specs.Ranges.{one, count}
+use Rattle.rules.specs.Ranges.{one}
 use Rattle.rules.proofs.Ranges.{count-none, count-next, count-le}
 use Rattle.words.specs.Words.{word, stored, table}
+use Rattle.degrees.specs.Counting.{tally}
 use Rattle.words.proofs.Words.{length-stored, table-ext, length-table, at-table, put-table}
-
--- how many of the first k entries have column v
-abbrev pub tally : (ℕ → ℕ) → ℕ → ℕ → ℕ
-tally column k v = count (λ e. eqb (column e) v) 0 k
 
 pub record Tallies (w n : ℕ) (column : ℕ → ℕ) (old now : List ℕ) (k : ℕ) : Type 0 where
   pub long : length now ≡ length old
