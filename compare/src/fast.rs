@@ -7,7 +7,8 @@ pub mod sheet;
 mod tables;
 
 use crate::interface::{
-    Answer, DecodeInput, Decoded, Decoder, GraphBytes, Lent, LentLengths, Refusal, SheetCounts,
+    Answer, DecodeInput, Decoded, Decoder, GraphBytes, Lent, LentLengths, NUMBER_BYTES, Refusal,
+    SheetCounts,
 };
 
 pub struct Fast;
@@ -50,8 +51,10 @@ impl Decoder for Fast {
     ) -> Answer<SheetCounts> {
         match sheet::read(text, starts.len(), columns.len()) {
             Ok(read) => {
-                starts[..2 * read.starts.len()].copy_from_slice(read.starts.as_flattened());
-                columns[..2 * read.columns.len()].copy_from_slice(read.columns.as_flattened());
+                starts[..NUMBER_BYTES * read.starts.len()]
+                    .copy_from_slice(read.starts.as_flattened());
+                columns[..NUMBER_BYTES * read.columns.len()]
+                    .copy_from_slice(read.columns.as_flattened());
                 Answer::Accepted(SheetCounts {
                     n: read.n,
                     m: read.starts.len() - 1,

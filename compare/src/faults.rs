@@ -5,13 +5,13 @@ mod found;
 
 use crate::harness::check::level_bytes;
 use crate::interface::{
-    Answer, DecodeInput, Decoded, Decoder, GraphBytes, Lent, LentLengths, SheetCounts, Verdict,
-    f32_list, i32_bytes, u16_bytes, u16_list,
+    Answer, DecodeInput, Decoded, Decoder, GraphBytes, LARGEST_NUMBER, Lent, LentLengths,
+    SheetCounts, Verdict, as_number, f32_list, i32_bytes, number_bytes, numbers,
 };
 use crate::paper::graph::odd_checks;
 use crate::paper::rules::{self, Offsets};
 use crate::paper::run::{Checked, check_settings};
-use crate::paper::{self, Graph, Level, Outcome, Refusal};
+use crate::paper::{self, Graph, Level, Limits, Outcome, Refusal};
 
 #[derive(Clone, Copy, Debug, PartialEq, Eq)]
 enum Fault {
@@ -57,7 +57,7 @@ impl Faulty {
     }
 
     fn outcome(&self, input: &DecodeInput, lent: &LentLengths) -> Result<Outcome, Refusal> {
-        let (starts, columns) = (u16_list(input.graph.starts), u16_list(input.graph.columns));
+        let (starts, columns) = (numbers(input.graph.starts), numbers(input.graph.columns));
         let graph = Graph { n: input.graph.n, starts: &starts, columns: &columns };
         let values = f32_list(input.values);
         let mut settings = input.settings;
@@ -67,7 +67,7 @@ impl Faulty {
         if self.has(Fault::VarianceRead) && settings.kind == 0 && settings.variance.is_nan() {
             settings.gain = settings.variance;
         }
-        let refusal = match paper::decode(&graph, &values, &settings, lent) {
+        let refusal = match paper::decode(Limits::LENT, &graph, &values, &settings, lent) {
             Ok(_) => return Ok(self.run(&graph, &values, &check_settings(&settings)?, input)),
             Err(refusal) => refusal,
         };
@@ -136,7 +136,7 @@ impl Faulty {
     ) -> Outcome {
         let levels: Vec<Level> =
             values.iter().map(|&value| self.quantise(settings, input, value)).collect();
-        let sent = |&variable: &u16| rules::first_message(levels[variable as usize], settings.nq);
+        let sent = |&variable: &u32| rules::first_message(levels[variable as usize], settings.nq);
         let mut outcome = Outcome {
             verdict: Verdict::Stopped,
             iterations: 0,
@@ -219,7 +219,9 @@ impl Faulty {
         }
         if self.has(Fault::WideNumbersWrapped) {
             let wrapped = |word: &str| match word.parse::<u64>() {
-                Ok(number) if number > 65_535 => (number % 65_536).to_string(),
+                Ok(number) if number > LARGEST_NUMBER.into() => {
+                    as_number(number as usize).to_string()
+                }
                 _ => word.to_string(),
             };
             let text_words = String::from_utf8_lossy(&text).into_owned();
@@ -269,10 +271,10 @@ impl Decoder for Faulty {
     }
 
     fn decode_place(&self, graph: &GraphBytes, values: &[u8], number: u8) -> usize {
-        let (starts, columns) = (u16_list(graph.starts), u16_list(graph.columns));
+        let (starts, columns) = (numbers(graph.starts), numbers(graph.columns));
         let graph = Graph { n: graph.n, starts: &starts, columns: &columns };
         let values = f32_list(values);
-        match paper::check_graph(&graph) {
+        match paper::check_graph(Limits::LENT, &graph) {
             Err(refusal) => refusal.place,
             Ok(()) if number == 13 => values.len(),
             Ok(()) if number == 12 && self.has(Fault::LastBadValue) => last_bad_value(&values),
@@ -287,10 +289,12 @@ impl Decoder for Faulty {
         starts: &mut [u8],
         columns: &mut [u8],
     ) -> Answer<SheetCounts> {
-        match paper::read_sheet(&self.careless(text), starts.len(), columns.len()) {
+        match paper::read_sheet(Limits::LENT, &self.careless(text), starts.len(), columns.len()) {
             Ok(sheet) => {
-                starts[..2 * sheet.starts.len()].copy_from_slice(&u16_bytes(&sheet.starts));
-                columns[..2 * sheet.columns.len()].copy_from_slice(&u16_bytes(&sheet.columns));
+                for (lent, list) in [(starts, &sheet.starts), (columns, &sheet.columns)] {
+                    let bytes = number_bytes(list);
+                    lent[..bytes.len()].copy_from_slice(&bytes);
+                }
                 let (m, entries) = (sheet.starts.len() - 1, sheet.columns.len());
                 Answer::Accepted(SheetCounts { n: sheet.n, m, entries })
             }
@@ -299,14 +303,14 @@ impl Decoder for Faulty {
     }
 
     fn read_sheet_place(&self, text: &[u8], starts: usize, columns: usize) -> usize {
-        let read = paper::read_sheet(&self.careless(text), starts, columns);
+        let read = paper::read_sheet(Limits::LENT, &self.careless(text), starts, columns);
         read.err().map_or(0, |refusal| refusal.place)
     }
 
     fn write_sheet(&self, graph: &GraphBytes, text: &mut [u8]) -> Answer<usize> {
-        let (starts, columns) = (u16_list(graph.starts), u16_list(graph.columns));
+        let (starts, columns) = (numbers(graph.starts), numbers(graph.columns));
         let lists = Graph { n: graph.n, starts: &starts, columns: &columns };
-        match paper::write_sheet(&lists, text.len()) {
+        match paper::write_sheet(Limits::LENT, &lists, text.len()) {
             Ok(written) => {
                 text[..written.len()].copy_from_slice(&written);
                 let more = usize::from(self.has(Fault::TextLengthOneMore) && graph.n == 7);
@@ -317,8 +321,8 @@ impl Decoder for Faulty {
     }
 
     fn write_sheet_place(&self, graph: &GraphBytes, text: usize) -> usize {
-        let (starts, columns) = (u16_list(graph.starts), u16_list(graph.columns));
+        let (starts, columns) = (numbers(graph.starts), numbers(graph.columns));
         let lists = Graph { n: graph.n, starts: &starts, columns: &columns };
-        paper::write_sheet(&lists, text).err().map_or(0, |refusal| refusal.place)
+        paper::write_sheet(Limits::LENT, &lists, text).err().map_or(0, |refusal| refusal.place)
     }
 }

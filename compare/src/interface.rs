@@ -3,6 +3,12 @@
 //! Lists are byte slices, lowest byte first. A list's count is its length divided by the
 //! width, rounded down; bytes past the last whole element are never read or written.
 
+/// The bytes of a start or a column.
+pub const NUMBER_BYTES: usize = 2;
+
+/// The largest number that a start or a column can be.
+pub const LARGEST_NUMBER: u32 = u32::MAX >> (u32::BITS as usize - 8 * NUMBER_BYTES);
+
 /// A refusal's number and place.
 #[derive(Clone, Copy, Debug, PartialEq, Eq)]
 pub struct Refusal {
@@ -128,18 +134,25 @@ pub trait Decoder {
     fn write_sheet_place(&self, graph: &GraphBytes, text: usize) -> usize;
 }
 
-pub fn u16_list(bytes: &[u8]) -> Vec<u16> {
-    let elements = bytes.chunks_exact(2);
-    elements.map(|b| u16::from_le_bytes([b[0], b[1]])).collect()
+/// What the width of a start or a column leaves of a count.
+pub fn as_number(count: usize) -> u32 {
+    count as u32 & LARGEST_NUMBER
+}
+
+/// The starts or columns in these bytes.
+pub fn numbers(bytes: &[u8]) -> Vec<u32> {
+    let number = |b: &[u8]| b.iter().rfold(0, |higher, &byte| higher << 8 | u32::from(byte));
+    bytes.chunks_exact(NUMBER_BYTES).map(number).collect()
+}
+
+/// The bytes of starts or columns.
+pub fn number_bytes(list: &[u32]) -> Vec<u8> {
+    list.iter().flat_map(|number| number.to_le_bytes().into_iter().take(NUMBER_BYTES)).collect()
 }
 
 pub fn f32_list(bytes: &[u8]) -> Vec<f32> {
     let elements = bytes.chunks_exact(4);
     elements.map(|b| f32::from_le_bytes([b[0], b[1], b[2], b[3]])).collect()
-}
-
-pub fn u16_bytes(list: &[u16]) -> Vec<u8> {
-    list.iter().flat_map(|element| element.to_le_bytes()).collect()
 }
 
 pub fn i32_bytes(list: &[i32]) -> Vec<u8> {
@@ -148,4 +161,22 @@ pub fn i32_bytes(list: &[i32]) -> Vec<u8> {
 
 pub fn f32_bytes(list: &[f32]) -> Vec<u8> {
     list.iter().flat_map(|element| element.to_le_bytes()).collect()
+}
+
+#[cfg(test)]
+mod tests {
+    use super::*;
+
+    #[test]
+    fn numbers_and_their_bytes() {
+        let list = [0, 0x0102, LARGEST_NUMBER];
+        let bytes = number_bytes(&list);
+        assert_eq!(bytes.len(), 3 * NUMBER_BYTES);
+        assert_eq!(bytes[NUMBER_BYTES..][..2], [2, 1]);
+        assert_eq!(numbers(&bytes), list);
+        // A part of an element counts for nothing.
+        assert_eq!(numbers(&bytes[..bytes.len() - 1]), list[..2]);
+        assert_eq!(as_number(usize::MAX), LARGEST_NUMBER);
+        assert_eq!(as_number(LARGEST_NUMBER as usize + 3), 2);
+    }
 }

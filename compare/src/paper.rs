@@ -1,6 +1,7 @@
 //! The paper's rules, naive and clear. Quoted words in the comments are the paper's.
 
 pub mod graph;
+pub mod limits;
 pub mod program;
 pub mod quantiser;
 pub mod rules;
@@ -10,6 +11,7 @@ pub mod text;
 
 pub use crate::interface::Refusal;
 pub use graph::{Graph, check_graph, count_odd_checks, row_of_check};
+pub use limits::Limits;
 pub use program::frame;
 pub use quantiser::{Level, Scaling, quantise};
 pub use run::{Outcome, decode};

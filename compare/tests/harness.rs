@@ -6,7 +6,9 @@ use common::lines;
 use compare::generate::cases::programs_at_limits;
 use compare::generate::codewords::Codewords;
 use compare::generate::{graphs, limits};
-use compare::paper::{check_graph, count_odd_checks, frame, read_sheet, write_sheet};
+use compare::paper::{
+    Limits, Refusal, check_graph, count_odd_checks, frame, read_sheet, write_sheet,
+};
 use compare::random::Random;
 use std::process::Command;
 
@@ -15,9 +17,9 @@ fn graphs_are_admitted_and_come_back_from_their_sheets() {
     let random = &mut Random::new(11);
     for _ in 0..2_000 {
         let lists = graphs::any(random);
-        assert_eq!(check_graph(&lists.graph()), Ok(()));
-        let text = write_sheet(&lists.graph(), usize::MAX).unwrap();
-        let sheet = read_sheet(&text, usize::MAX, usize::MAX).unwrap();
+        assert_eq!(check_graph(Limits::LENT, &lists.graph()), Ok(()));
+        let text = write_sheet(Limits::LENT, &lists.graph(), usize::MAX).unwrap();
+        let sheet = read_sheet(Limits::LENT, &text, usize::MAX, usize::MAX).unwrap();
         assert_eq!((sheet.n, sheet.starts, sheet.columns), (lists.n, lists.starts, lists.columns));
     }
 }
@@ -28,24 +30,39 @@ fn codewords_have_no_odd_check_and_their_neighbours_have() {
     for _ in 0..500 {
         let lists = graphs::any(random);
         let mut word = Codewords::new(&lists).random(random);
-        assert_eq!(count_odd_checks(&lists.graph(), &word), Ok(0));
+        assert_eq!(count_odd_checks(Limits::LENT, &lists.graph(), &word), Ok(0));
         // Every variable stands in a check.
         word[random.below(lists.n)] ^= 1;
-        assert_ne!(count_odd_checks(&lists.graph(), &word), Ok(0));
+        assert_ne!(count_odd_checks(Limits::LENT, &lists.graph(), &word), Ok(0));
     }
 }
 
 #[test]
 fn limits_are_met_and_passed() {
-    let answers: Vec<Option<(u8, usize)>> = limits::graphs(&mut Random::new(13))
-        .iter()
-        .map(|lists| check_graph(&lists.graph()).err().map(|r| (r.number, r.place)))
-        .collect();
+    let answers = |limits: Limits| -> Vec<Option<(u8, usize)>> {
+        let graphs = limits::graphs(limits, &mut Random::new(13));
+        let answer = |r: Refusal| (r.number, r.place);
+        graphs.iter().map(|lists| check_graph(limits, &lists.graph()).err().map(answer)).collect()
+    };
     let admitted = [None; 7];
     // Variable 0 of degree 33 after 33 checks, a check of degree 65; then n of 1 and
     // 8,193, m of 8,193 and 65,537, E of 65,538 and 32,769.
     let passed = [(5, 33), (5, 0), (2, 0), (2, 0), (2, 0), (2, 0), (2, 0), (2, 0)].map(Some);
-    assert_eq!(answers, [&admitted[..], &passed, &[None]].concat());
+    let expected = [&admitted[..], &passed, &[None]].concat();
+    assert_eq!(answers(Limits::LENT), expected);
+    // Other limits, one past which no degree of a check divides.
+    let others = Limits { variables: 10_000, checks: 10_000, entries: 40_000 };
+    assert_eq!(answers(others), expected);
+}
+
+#[test]
+fn fullest_graphs_are_full() {
+    for limits in [Limits::LENT, Limits { variables: 1_000, checks: 500, entries: 3_000 }] {
+        let lists = graphs::fullest(limits, &mut Random::new(14));
+        let counts = (lists.n, lists.starts.len() - 1, lists.columns.len());
+        assert_eq!(counts, (limits.variables, limits.checks, limits.entries));
+        assert_eq!(check_graph(limits, &lists.graph()), Ok(()));
+    }
 }
 
 #[test]

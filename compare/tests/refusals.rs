@@ -4,20 +4,20 @@ mod common;
 
 use common::*;
 use compare::interface::{LentLengths, Settings};
-use compare::paper::{Graph, check_graph, count_odd_checks, decode, row_of_check};
+use compare::paper::{Graph, Limits, check_graph, count_odd_checks, decode, row_of_check};
 
-fn checked(n: usize, starts: &[u16], columns: &[u16]) -> Result<(), compare::paper::Refusal> {
-    check_graph(&Graph { n, starts, columns })
+fn checked(n: usize, starts: &[u32], columns: &[u32]) -> Result<(), compare::paper::Refusal> {
+    check_graph(Limits::LENT, &Graph { n, starts, columns })
 }
 
 /// Starts of `m` checks that have `degree` entries each.
-fn even_starts(m: u16, degree: u16) -> Vec<u16> {
+fn even_starts(m: u32, degree: u32) -> Vec<u32> {
     (0..=m).map(|check| check * degree).collect()
 }
 
 #[test]
 fn counts_outside_limits() {
-    let good: (&[u16], &[u16]) = (&[0, 2], &[0, 1]);
+    let good: (&[u32], &[u32]) = (&[0, 2], &[0, 1]);
     assert_eq!(checked(2, good.0, good.1), Ok(()));
     for n in [0, 1, 8_193, 65_538, usize::MAX] {
         assert_eq!(checked(n, good.0, good.1), refused(2, 0));
@@ -34,8 +34,29 @@ fn counts_outside_limits() {
 }
 
 #[test]
+fn limits_of_the_call() {
+    // 3 variables, 2 checks, 4 entries.
+    let graph = example_graph();
+    let answers = |variables, checks, entries| {
+        let limits = Limits { variables, checks, entries };
+        let (settings, lent) = (example_settings(), LentLengths::needed(3, 4));
+        let decoded = decode(limits, &graph, &EXAMPLE_VALUES, &settings, &lent);
+        [
+            check_graph(limits, &graph),
+            row_of_check(limits, &graph, 1).map(|_| ()),
+            count_odd_checks(limits, &graph, &[0; 3]).map(|_| ()),
+            decoded.map(|_| ()),
+        ]
+    };
+    assert_eq!(answers(3, 2, 4), [Ok(()); 4]);
+    assert_eq!(answers(2, 2, 4), [refused(2, 0); 4]);
+    assert_eq!(answers(3, 1, 4), [refused(2, 0); 4]);
+    assert_eq!(answers(3, 2, 3), [refused(2, 0); 4]);
+}
+
+#[test]
 fn starts_out_of_order() {
-    let columns: &[u16] = &[0, 1, 1, 2];
+    let columns: &[u32] = &[0, 1, 1, 2];
     assert_eq!(checked(3, &[1, 2, 4], columns), refused(7, 0));
     assert_eq!(checked(3, &[0, 2, 3], columns), refused(7, 2));
     assert_eq!(checked(3, &[0, 2, 5], columns), refused(7, 2));
@@ -49,7 +70,7 @@ fn starts_out_of_order() {
 
 #[test]
 fn columns_out_of_range_or_order() {
-    let starts: &[u16] = &[0, 2, 4];
+    let starts: &[u32] = &[0, 2, 4];
     assert_eq!(checked(3, starts, &[0, 1, 1, 3]), refused(3, 3));
     assert_eq!(checked(3, starts, &[0, 65_535, 1, 3]), refused(3, 1));
     assert_eq!(checked(3, starts, &[0, 1, 2, 1]), refused(4, 3));
@@ -70,10 +91,10 @@ fn degrees_outside_limits() {
     assert_eq!(checked(3, &[0, 2, 4], &[0, 2, 0, 2]), refused(5, 3));
     // A check comes before a variable, however low.
     assert_eq!(checked(3, &[0, 2, 3], &[1, 2, 2]), refused(5, 1));
-    let all: Vec<u16> = (0..65).collect();
+    let all: Vec<u32> = (0..65).collect();
     assert_eq!(checked(64, &[0, 64], &all[..64]), Ok(()));
     assert_eq!(checked(65, &[0, 65], &all), refused(5, 0));
-    let pairs: Vec<u16> = [0, 1].repeat(33);
+    let pairs: Vec<u32> = [0, 1].repeat(33);
     assert_eq!(checked(2, &even_starts(32, 2), &pairs[..64]), Ok(()));
     assert_eq!(checked(2, &even_starts(33, 2), &pairs), refused(5, 33));
 }
@@ -81,33 +102,33 @@ fn degrees_outside_limits() {
 #[test]
 fn rows() {
     let graph = example_graph();
-    assert_eq!(row_of_check(&graph, 0), Ok(&[0, 1][..]));
-    assert_eq!(row_of_check(&graph, 1), Ok(&[1, 2][..]));
-    assert_eq!(row_of_check(&graph, 2), refused(3, 2));
-    assert_eq!(row_of_check(&graph, usize::MAX), refused(3, usize::MAX));
+    assert_eq!(row_of_check(Limits::LENT, &graph, 0), Ok(&[0, 1][..]));
+    assert_eq!(row_of_check(Limits::LENT, &graph, 1), Ok(&[1, 2][..]));
+    assert_eq!(row_of_check(Limits::LENT, &graph, 2), refused(3, 2));
+    assert_eq!(row_of_check(Limits::LENT, &graph, usize::MAX), refused(3, usize::MAX));
     let bad = Graph { n: 2, ..graph };
-    assert_eq!(row_of_check(&bad, 9), refused(3, 3));
+    assert_eq!(row_of_check(Limits::LENT, &bad, 9), refused(3, 3));
     let bad = Graph { starts: &[], ..graph };
-    assert_eq!(row_of_check(&bad, 9), refused(2, 0));
+    assert_eq!(row_of_check(Limits::LENT, &bad, 9), refused(2, 0));
     // The row is a part of the caller's list, not a copy.
-    let row = row_of_check(&graph, 1).unwrap();
+    let row = row_of_check(Limits::LENT, &graph, 1).unwrap();
     assert_eq!(row.as_ptr(), graph.columns[2..].as_ptr());
 }
 
 #[test]
 fn odd_checks() {
     let graph = example_graph();
-    assert_eq!(count_odd_checks(&graph, &[0, 0, 0]), Ok(0));
-    assert_eq!(count_odd_checks(&graph, &[1, 1, 1]), Ok(0));
-    assert_eq!(count_odd_checks(&graph, &[1, 0, 0]), Ok(1));
-    assert_eq!(count_odd_checks(&graph, &[0, 1, 0]), Ok(2));
-    assert_eq!(count_odd_checks(&graph, &[0, 1]), refused(13, 0));
-    assert_eq!(count_odd_checks(&graph, &[0, 1, 0, 0]), refused(13, 0));
-    assert_eq!(count_odd_checks(&graph, &[0, 2, 3]), refused(15, 1));
+    assert_eq!(count_odd_checks(Limits::LENT, &graph, &[0, 0, 0]), Ok(0));
+    assert_eq!(count_odd_checks(Limits::LENT, &graph, &[1, 1, 1]), Ok(0));
+    assert_eq!(count_odd_checks(Limits::LENT, &graph, &[1, 0, 0]), Ok(1));
+    assert_eq!(count_odd_checks(Limits::LENT, &graph, &[0, 1, 0]), Ok(2));
+    assert_eq!(count_odd_checks(Limits::LENT, &graph, &[0, 1]), refused(13, 0));
+    assert_eq!(count_odd_checks(Limits::LENT, &graph, &[0, 1, 0, 0]), refused(13, 0));
+    assert_eq!(count_odd_checks(Limits::LENT, &graph, &[0, 2, 3]), refused(15, 1));
     // 13 before 15, the graph's before both.
-    assert_eq!(count_odd_checks(&graph, &[9, 9]), refused(13, 0));
+    assert_eq!(count_odd_checks(Limits::LENT, &graph, &[9, 9]), refused(13, 0));
     let bad = Graph { n: 4, ..graph };
-    assert_eq!(count_odd_checks(&bad, &[9, 9]), refused(5, 2 + 3));
+    assert_eq!(count_odd_checks(Limits::LENT, &bad, &[9, 9]), refused(5, 2 + 3));
 }
 
 fn decode_with(change: impl Fn(&mut Settings)) -> Result<usize, compare::paper::Refusal> {
@@ -213,7 +234,7 @@ fn values_infinite_or_nan() {
         let noise = Settings { kind: 1, gain: f32::MAX, variance: 1.0, ..settings };
         assert_eq!(decode_freely(&example_graph(), &[bad; 3], &noise), refused(11, 0));
         let nothing = LentLengths::needed(0, 0);
-        let short = decode(&example_graph(), &[1.0, 1.0, bad], &settings, &nothing);
+        let short = decode(Limits::LENT, &example_graph(), &[1.0, 1.0, bad], &settings, &nothing);
         assert_eq!(short, refused(12, 2));
     }
     let largest = decode_freely(&example_graph(), &[f32::MAX; 3], &settings).unwrap();
@@ -226,7 +247,8 @@ fn buffers_too_short() {
     let needed = [3, 4, 4, 12, 3];
     let lent = |lengths| {
         let lengths = LentLengths::from_array(lengths);
-        decode(&example_graph(), &EXAMPLE_VALUES, &example_settings(), &lengths).map(|_| ())
+        decode(Limits::LENT, &example_graph(), &EXAMPLE_VALUES, &example_settings(), &lengths)
+            .map(|_| ())
     };
     assert_eq!(lent(needed), Ok(()));
     for buffer in 0..needed.len() {

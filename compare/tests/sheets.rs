@@ -3,7 +3,8 @@
 mod common;
 
 use common::*;
-use compare::paper::{Graph, Refusal, Sheet, read_sheet, write_sheet};
+use compare::interface::NUMBER_BYTES;
+use compare::paper::{Graph, Limits, Refusal, Sheet, read_sheet, write_sheet};
 
 const TOP: [&str; 3] = ["variables checks", "3 2", "check variable"];
 const ENTRIES: [&str; 4] = ["0 0", "0 1", "1 1", "1 2"];
@@ -14,7 +15,7 @@ fn example() -> Vec<u8> {
 
 /// The sheet with these lines, read with long enough lists.
 fn read(text: &[u8]) -> Result<Sheet, Refusal> {
-    read_sheet(text, 2 * 8_193, 2 * 32_768)
+    read_sheet(Limits::LENT, text, NUMBER_BYTES * 8_193, NUMBER_BYTES * 32_768)
 }
 
 fn read_entries(entries: &[&str]) -> Result<Sheet, Refusal> {
@@ -29,7 +30,7 @@ fn read_counts(counts: &str) -> Result<Sheet, Refusal> {
 fn example_both_ways() {
     let sheet = Sheet { n: 3, starts: vec![0, 2, 4], columns: vec![0, 1, 1, 2] };
     assert_eq!(read(&example()), Ok(sheet));
-    assert_eq!(write_sheet(&example_graph(), 1_000), Ok(example()));
+    assert_eq!(write_sheet(Limits::LENT, &example_graph(), 1_000), Ok(example()));
 }
 
 #[test]
@@ -114,15 +115,16 @@ fn degrees_after_the_last_line() {
     assert_eq!(read_entries(&["1 0", "1 1"]), refused(5, 0));
     assert_eq!(read_entries(&["0 0", "0 1", "1 0", "1 1"]), refused(5, 2 + 2));
     // Before 6.
-    assert_eq!(read_sheet(&lines(&TOP), 0, 0), refused(5, 0));
+    assert_eq!(read_sheet(Limits::LENT, &lines(&TOP), 0, 0), refused(5, 0));
 }
 
 #[test]
 fn lists_too_short() {
-    let lent = |starts, columns| read_sheet(&example(), starts, columns).map(|_| ());
-    assert_eq!(lent(6, 8), Ok(()));
-    assert_eq!(lent(5, 8), refused(6, 0));
-    assert_eq!(lent(6, 7), refused(6, 0));
+    let lent = |starts, columns| read_sheet(Limits::LENT, &example(), starts, columns).map(|_| ());
+    let (starts, columns) = (3 * NUMBER_BYTES, 4 * NUMBER_BYTES);
+    assert_eq!(lent(starts, columns), Ok(()));
+    assert_eq!(lent(starts - 1, columns), refused(6, 0));
+    assert_eq!(lent(starts, columns - 1), refused(6, 0));
     assert_eq!(lent(0, 0), refused(6, 0));
 }
 
@@ -145,7 +147,7 @@ fn one_entry_too_many() {
     let full = fullest_sheet();
     let sheet = read(&full).unwrap();
     assert_eq!((sheet.starts.len(), sheet.columns.len()), (8_193, 32_768));
-    assert_eq!(write_sheet(&sheet.graph(), full.len()), Ok(full.clone()));
+    assert_eq!(write_sheet(Limits::LENT, &sheet.graph(), full.len()), Ok(full.clone()));
     // Line 32,772 is too many before its form, with or without LF.
     for extra in ["9 9\n", "\n", "?", "8191 8191", "\r", "0"] {
         assert_eq!(read(&[&full[..], extra.as_bytes()].concat()), refused(2, 32_772));
@@ -161,12 +163,13 @@ fn one_entry_too_many() {
 #[test]
 fn writing() {
     let text = example();
-    assert_eq!(write_sheet(&example_graph(), text.len()), Ok(text.clone()));
-    assert_eq!(write_sheet(&example_graph(), text.len() - 1), refused(6, 0));
-    assert_eq!(write_sheet(&example_graph(), 0), refused(6, 0));
+    assert_eq!(write_sheet(Limits::LENT, &example_graph(), text.len()), Ok(text.clone()));
+    assert_eq!(write_sheet(Limits::LENT, &example_graph(), text.len() - 1), refused(6, 0));
+    assert_eq!(write_sheet(Limits::LENT, &example_graph(), 0), refused(6, 0));
     // The graph's refusals come first.
-    let refused_graph =
-        |n, starts: &[u16], columns: &[u16]| write_sheet(&Graph { n, starts, columns }, 0);
+    let refused_graph = |n, starts: &[u32], columns: &[u32]| {
+        write_sheet(Limits::LENT, &Graph { n, starts, columns }, 0)
+    };
     assert_eq!(refused_graph(3, &[], &[0, 1, 1, 2]), refused(2, 0));
     assert_eq!(refused_graph(3, &[0, 2, 3], &[0, 1, 1, 2]), refused(7, 2));
     assert_eq!(refused_graph(2, &[0, 2, 4], &[0, 1, 1, 2]), refused(3, 3));
@@ -174,9 +177,48 @@ fn writing() {
     assert_eq!(refused_graph(4, &[0, 2, 4], &[0, 1, 1, 2]), refused(5, 2 + 3));
     // Numbers of one to three digits: 100 checks, each of two neighbours.
     let n = 101;
-    let starts: Vec<u16> = (0..=100).map(|check| 2 * check).collect();
-    let columns: Vec<u16> = (0..100).flat_map(|check| [check, check + 1]).collect();
-    let written = write_sheet(&Graph { n, starts: &starts, columns: &columns }, 10_000).unwrap();
+    let starts: Vec<u32> = (0..=100).map(|check| 2 * check).collect();
+    let columns: Vec<u32> = (0..100).flat_map(|check| [check, check + 1]).collect();
+    let written =
+        write_sheet(Limits::LENT, &Graph { n, starts: &starts, columns: &columns }, 10_000)
+            .unwrap();
     assert!(written.starts_with(b"variables checks\n101 100\ncheck variable\n0 0\n0 1\n1 1\n"));
     assert!(written.ends_with(b"98 98\n98 99\n99 99\n99 100\n"));
+}
+
+#[test]
+fn limits_of_the_call() {
+    let read = |variables, checks, entries| {
+        let limits = Limits { variables, checks, entries };
+        read_sheet(limits, &example(), usize::MAX, usize::MAX).map(|_| ())
+    };
+    assert_eq!(read(3, 2, 4), Ok(()));
+    assert_eq!(read(2, 2, 4), refused(2, 2));
+    assert_eq!(read(3, 1, 4), refused(2, 2));
+    assert_eq!(read(3, 2, 3), refused(2, 7));
+    let written = |variables, checks, entries| {
+        let limits = Limits { variables, checks, entries };
+        write_sheet(limits, &example_graph(), 1_000).map(|_| ())
+    };
+    assert_eq!(written(3, 2, 4), Ok(()));
+    assert_eq!(written(2, 2, 4), refused(2, 0));
+    assert_eq!(written(3, 1, 4), refused(2, 0));
+    assert_eq!(written(3, 2, 3), refused(2, 0));
+}
+
+/// 70,000 checks on 70,001 variables, each of two neighbours: no number of it is cut short.
+#[test]
+fn wider_limits() {
+    let limits = Limits { variables: 70_001, checks: 70_000, entries: 140_000 };
+    let starts: Vec<u32> = (0..=70_000).map(|check| 2 * check).collect();
+    let columns: Vec<u32> = (0..70_000).flat_map(|check| [check, check + 1]).collect();
+    let graph = Graph { n: 70_001, starts: &starts, columns: &columns };
+    let text = write_sheet(limits, &graph, usize::MAX).unwrap();
+    assert!(text.ends_with(b"\n69999 69999\n69999 70000\n"));
+    let sheet = read_sheet(limits, &text, usize::MAX, usize::MAX).unwrap();
+    assert_eq!((sheet.n, &sheet.starts, &sheet.columns), (70_001, &starts, &columns));
+    let more = [&text[..], b"?"].concat();
+    assert_eq!(read_sheet(limits, &more, usize::MAX, usize::MAX), refused(2, 140_004));
+    assert_eq!(write_sheet(Limits::PROGRAM, &graph, usize::MAX), refused(2, 0));
+    assert_eq!(read_sheet(Limits::PROGRAM, &text, usize::MAX, usize::MAX), refused(2, 2));
 }

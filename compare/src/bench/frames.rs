@@ -3,7 +3,7 @@
 use crate::generate::codewords::Codewords;
 use crate::generate::graphs::{Lists, regular};
 use crate::interface::{LentLengths, Settings, Verdict, f32_bytes, f32_list};
-use crate::paper;
+use crate::paper::{self, Limits};
 use crate::random::Random;
 
 /// Frames of a batch on a large graph.
@@ -45,7 +45,8 @@ pub fn noisy(random: &mut Random, n: usize) -> Vec<Batch> {
 pub fn chosen(random: &mut Random, n: usize) -> Vec<Batch> {
     batches(random, n, SMALL_FRAMES, |lists, ending, frame| {
         let lent = LentLengths::needed(n, lists.columns.len());
-        let outcome = paper::decode(&lists.graph(), &f32_list(frame), &SETTINGS, &lent);
+        let outcome =
+            paper::decode(Limits::LENT, &lists.graph(), &f32_list(frame), &SETTINGS, &lent);
         outcome.is_ok_and(|outcome| outcome.verdict == ending && outcome.iterations > 0)
     })
 }

@@ -3,7 +3,9 @@
 
 use super::frames::Batch;
 use crate::generate::{Lists, texts};
-use crate::interface::{Answer, DecodeInput, Decoder, GraphBytes, Lent, LentLengths, u16_bytes};
+use crate::interface::{
+    Answer, DecodeInput, Decoder, GraphBytes, Lent, LentLengths, NUMBER_BYTES, number_bytes,
+};
 use std::hint::black_box;
 use std::time::{Duration, Instant};
 
@@ -54,8 +56,8 @@ impl Prepared<'_> {
         let lengths = LentLengths::needed(lists.n, lists.columns.len()).as_array();
         Prepared {
             batch,
-            starts: u16_bytes(&lists.starts),
-            columns: u16_bytes(&lists.columns),
+            starts: number_bytes(&lists.starts),
+            columns: number_bytes(&lists.columns),
             lent: lengths.map(|length| vec![0; length]),
         }
     }
@@ -111,8 +113,8 @@ impl Prepared<'_> {
 
 pub fn read_times(decoders: &[Named], lists: &Lists) -> Vec<Times> {
     let text = texts::sheet(lists);
-    let mut starts = vec![0; 2 * lists.starts.len()];
-    let mut columns = vec![0; 2 * lists.columns.len()];
+    let mut starts = vec![0; NUMBER_BYTES * lists.starts.len()];
+    let mut columns = vec![0; NUMBER_BYTES * lists.columns.len()];
     in_turns(decoders, |decoder, _| {
         starts.fill(0);
         columns.fill(0);
@@ -123,7 +125,7 @@ pub fn read_times(decoders: &[Named], lists: &Lists) -> Vec<Times> {
 }
 
 pub fn write_times(decoders: &[Named], lists: &Lists) -> Vec<Times> {
-    let (starts, columns) = (u16_bytes(&lists.starts), u16_bytes(&lists.columns));
+    let (starts, columns) = (number_bytes(&lists.starts), number_bytes(&lists.columns));
     let graph = GraphBytes { n: lists.n, starts: &starts, columns: &columns };
     let mut text = vec![0; texts::sheet(lists).len()];
     in_turns(decoders, |decoder, _| {

@@ -1,7 +1,7 @@
 //! A flooding decoder: the two least magnitudes of each row, sums scattered along the
 //! rows, outgoing messages from a constant table.
 
-use super::graph::{self, Word, number};
+use super::graph::{self, Degree, Word, number};
 use super::tables::{HALVES, MINUS, Outgoing};
 use crate::interface::{DecodeInput, Decoded, Lent, LentLengths, Refusal, Settings, Verdict};
 
@@ -9,7 +9,7 @@ use crate::interface::{DecodeInput, Decoded, Lent, LentLengths, Refusal, Setting
 pub struct Frame<'a> {
     starts: &'a [Word],
     columns: &'a [Word],
-    degrees: Vec<u16>,
+    degrees: Vec<Degree>,
     values: &'a [[u8; 4]],
     factor: f32,
     nch: u8,
@@ -139,11 +139,11 @@ fn quantise(frame: &Frame, levels: &mut [u8]) {
 }
 
 /// The channel level's part of each sum.
-fn channel_halves(levels: &[u8], degrees: &[u16]) -> Vec<i32> {
-    let halves = |(&level, &degree): (&u8, &u16)| {
+fn channel_halves(levels: &[u8], degrees: &[Degree]) -> Vec<i32> {
+    let halves = |(&level, &degree): (&u8, &Degree)| {
         let extra = match degree {
             2 => 0,
-            _ => 2 - i32::from(degree & 1),
+            _ => 2 - (degree & 1) as i32,
         };
         let size = i32::from(level & 0x7f) * 2 + extra;
         if level & MINUS != 0 { -size } else { size }

@@ -1,12 +1,26 @@
 //! The graph's lists where they stand, and its check in few passes over them.
 
-use crate::interface::{GraphBytes, Refusal};
+use crate::interface::{GraphBytes, NUMBER_BYTES, Refusal};
+
+pub const MOST_VARIABLES: usize = 8_192;
+pub const MOST_CHECKS: usize = 8_192;
+pub const MOST_ENTRIES: usize = 32_768;
+
+/// Holds any start or column.
+type Number = u16;
+
+/// Counts the checks of a variable.
+pub type Degree = u16;
 
 /// A number of a list, lowest byte first.
-pub type Word = [u8; 2];
+pub type Word = [u8; NUMBER_BYTES];
 
 pub fn number(word: Word) -> usize {
-    usize::from(u16::from_le_bytes(word))
+    Number::from_le_bytes(word) as usize
+}
+
+pub fn word(number: usize) -> Word {
+    (number as Number).to_le_bytes()
 }
 
 /// The starts and the columns.
@@ -24,9 +38,10 @@ fn refusal(number: u8, place: usize) -> Refusal {
 }
 
 /// The variables' degrees, where nothing is refused.
-pub fn check(n: usize, starts: &[Word], columns: &[Word]) -> Result<Vec<u16>, Refusal> {
-    let counts_fit =
-        (2..=8_192).contains(&n) && (2..=8_193).contains(&starts.len()) && columns.len() <= 32_768;
+pub fn check(n: usize, starts: &[Word], columns: &[Word]) -> Result<Vec<Degree>, Refusal> {
+    let counts_fit = (2..=MOST_VARIABLES).contains(&n)
+        && (2..=MOST_CHECKS + 1).contains(&starts.len())
+        && columns.len() <= MOST_ENTRIES;
     if !counts_fit {
         return Err(refusal(2, 0));
     }

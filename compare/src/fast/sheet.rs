@@ -1,11 +1,12 @@
 //! The sheet read in one pass over its bytes, and written straight into the lent text.
 
-use super::graph::{self, Word, number};
-use crate::interface::{GraphBytes, Refusal};
+use super::graph::{self, MOST_CHECKS, MOST_ENTRIES, MOST_VARIABLES, Word, number, word};
+use crate::interface::{GraphBytes, NUMBER_BYTES, Refusal};
 
 const TOP: &[u8] = b"variables checks\n";
 const MIDDLE: &[u8] = b"check variable\n";
-const MOST_ENTRIES: usize = 32_768;
+/// What a number past every limit counts as; ten times it fits u32.
+const PAST_LIMITS: u32 = 10_000_000;
 
 pub struct Read {
     pub n: usize,
@@ -17,12 +18,12 @@ pub fn read(text: &[u8], starts_lent: usize, columns_lent: usize) -> Result<Read
     let refusal = |number, place| Refusal { number, place };
     let mut rest = text.strip_prefix(TOP).ok_or(refusal(1, 1))?;
     let (n, m) = take_pair(&mut rest).ok_or(refusal(1, 2))?;
-    if !(2..=8_192).contains(&n) || !(1..=8_192).contains(&m) {
+    if !(2..=MOST_VARIABLES).contains(&(n as usize)) || !(1..=MOST_CHECKS).contains(&(m as usize)) {
         return Err(refusal(2, 2));
     }
     rest = rest.strip_prefix(MIDDLE).ok_or(refusal(1, 3))?;
 
-    let mut starts = vec![[0; 2]];
+    let mut starts = vec![word(0)];
     let mut columns = Vec::new();
     let mut above = None;
     while !rest.is_empty() {
@@ -38,12 +39,12 @@ pub fn read(text: &[u8], starts_lent: usize, columns_lent: usize) -> Result<Read
             return Err(refusal(4, line));
         }
         above = Some(entry);
-        starts.resize(1 + entry.0 as usize, (columns.len() as u16).to_le_bytes());
-        columns.push((entry.1 as u16).to_le_bytes());
+        starts.resize(1 + entry.0 as usize, word(columns.len()));
+        columns.push(word(entry.1 as usize));
     }
-    starts.resize(1 + m as usize, (columns.len() as u16).to_le_bytes());
+    starts.resize(1 + m as usize, word(columns.len()));
     graph::check(n as usize, &starts, &columns)?;
-    if starts_lent / 2 < starts.len() || columns_lent / 2 < columns.len() {
+    if starts_lent / NUMBER_BYTES < starts.len() || columns_lent / NUMBER_BYTES < columns.len() {
         return Err(refusal(6, 0));
     }
     Ok(Read { n: n as usize, starts, columns })
@@ -54,7 +55,7 @@ fn take_pair(rest: &mut &[u8]) -> Option<(u32, u32)> {
     Some((take_number(rest, b' ')?, take_number(rest, b'\n')?))
 }
 
-/// Takes a number and the byte that ends it. A number past every limit counts as a million.
+/// Takes a number and the byte that ends it.
 fn take_number(rest: &mut &[u8], ending: u8) -> Option<u32> {
     let mut number = 0;
     for (index, &byte) in rest.iter().enumerate() {
@@ -67,11 +68,12 @@ fn take_number(rest: &mut &[u8], ending: u8) -> Option<u32> {
         if digit > 9 {
             return None;
         }
-        number = (number * 10 + digit).min(1_000_000);
+        number = (number * 10 + digit).min(PAST_LIMITS);
     }
     None
 }
 
+/// How many digits a number below 100,000 has.
 fn digits(number: usize) -> usize {
     1 + usize::from(number > 9)
         + usize::from(number > 99)

@@ -17,8 +17,8 @@ fn found(fault: Fault) -> Failure {
 /// The graph entries of a failing decode, and its iteration limit.
 fn size(failure: &Failure) -> (usize, u32) {
     match &failure.case {
-        Case::Decode(case) => (case.columns.len() / 2, case.settings.limit),
-        Case::Twin(case) => (case.decode.columns.len() / 2, case.decode.settings.limit),
+        Case::Decode(case) => (case.entries(), case.settings.limit),
+        Case::Twin(case) => (case.decode.entries(), case.decode.settings.limit),
         other => panic!("found in {other:?}"),
     }
 }

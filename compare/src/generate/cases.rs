@@ -2,7 +2,8 @@
 
 use super::codewords::Codewords;
 use super::{Lists, damage, graphs, limits, settings, texts};
-use crate::interface::{LentLengths, Settings, f32_bytes, u16_bytes};
+use crate::interface::{LentLengths, NUMBER_BYTES, Settings, f32_bytes, number_bytes};
+use crate::paper::Limits;
 use crate::paper::run::check_settings;
 use crate::random::Random;
 
@@ -15,6 +16,13 @@ pub struct DecodeCase {
     pub values: Vec<u8>,
     pub settings: Settings,
     pub lent: LentLengths,
+}
+
+impl DecodeCase {
+    /// How many columns it has.
+    pub fn entries(&self) -> usize {
+        self.columns.len() / NUMBER_BYTES
+    }
 }
 
 /// A sheet to read and the lengths of the lists lent for it.
@@ -58,7 +66,7 @@ pub struct ProgramCase {
 /// The inputs at the limits that are in every series.
 pub fn at_limits(random: &mut Random) -> Vec<Case> {
     let mut cases = Vec::new();
-    for lists in limits::graphs(random) {
+    for lists in limits::graphs(Limits::LENT, random) {
         let values = settings::values(random, lists.n, 1.0);
         let settings = Settings { limit: 3, ..settings::good(random) };
         let decode = decode_case(&lists, &values, settings);
@@ -69,8 +77,10 @@ pub fn at_limits(random: &mut Random) -> Vec<Case> {
     let lists = graphs::any(random);
     let values = vec![1.0; lists.n + 65_536];
     cases.push(Case::Decode(decode_case(&lists, &values, settings::good(random))));
-    for text in limits::sheets(random) {
-        cases.push(Case::Read(ReadCase { text, starts: 2 * 8_193, columns: 2 * 32_768 }));
+    let starts = NUMBER_BYTES * (Limits::LENT.checks + 1);
+    let columns = NUMBER_BYTES * Limits::LENT.entries;
+    for text in limits::sheets(Limits::LENT, random) {
+        cases.push(Case::Read(ReadCase { text, starts, columns }));
     }
     let lists = graphs::regular(random, 1_200, 3, 6);
     cases.push(Case::Twin(twin_of(random, &lists)));
@@ -89,8 +99,8 @@ pub fn any(random: &mut Random) -> Case {
 fn decode_case(lists: &Lists, values: &[f32], settings: Settings) -> DecodeCase {
     DecodeCase {
         n: lists.n,
-        starts: u16_bytes(&lists.starts),
-        columns: u16_bytes(&lists.columns),
+        starts: number_bytes(&lists.starts),
+        columns: number_bytes(&lists.columns),
         values: f32_bytes(values),
         settings,
         lent: LentLengths::needed(lists.n, lists.columns.len()),
@@ -100,8 +110,8 @@ fn decode_case(lists: &Lists, values: &[f32], settings: Settings) -> DecodeCase 
 fn write_case(lists: &Lists) -> WriteCase {
     WriteCase {
         n: lists.n,
-        starts: u16_bytes(&lists.starts),
-        columns: u16_bytes(&lists.columns),
+        starts: number_bytes(&lists.starts),
+        columns: number_bytes(&lists.columns),
         text: texts::sheet(lists).len(),
     }
 }
@@ -127,7 +137,7 @@ fn damages(random: &mut Random) -> usize {
 
 fn any_decode(random: &mut Random) -> DecodeCase {
     let large = random.one_in(2_000);
-    let mut lists = if large { graphs::large(random) } else { graphs::any(random) };
+    let mut lists = if large { graphs::large(Limits::LENT, random) } else { graphs::any(random) };
     let mut settings = settings::good(random);
     if large {
         settings.limit = settings.limit.min(10);
@@ -142,7 +152,7 @@ fn any_decode(random: &mut Random) -> DecodeCase {
     }
     let lent = LentLengths::needed(lists.n, lists.columns.len());
     let lent = LentLengths::from_array(lent.as_array().map(|needed| lent_length(random, needed)));
-    (0..damages(random)).for_each(|_| damage::damage(random, &mut lists));
+    (0..damages(random)).for_each(|_| damage::damage(Limits::LENT, random, &mut lists));
     let mut case = decode_case(&lists, &values, settings);
     case.starts = damage::ragged(random, case.starts);
     case.columns = damage::ragged(random, case.columns);
@@ -153,23 +163,23 @@ fn any_decode(random: &mut Random) -> DecodeCase {
 fn any_write(random: &mut Random) -> WriteCase {
     let mut lists = graphs::any(random);
     let text = texts::sheet(&lists).len();
-    (0..damages(random)).for_each(|_| damage::damage(random, &mut lists));
-    let starts = damage::ragged(random, u16_bytes(&lists.starts));
-    let columns = damage::ragged(random, u16_bytes(&lists.columns));
+    (0..damages(random)).for_each(|_| damage::damage(Limits::LENT, random, &mut lists));
+    let starts = damage::ragged(random, number_bytes(&lists.starts));
+    let columns = damage::ragged(random, number_bytes(&lists.columns));
     WriteCase { n: lists.n, starts, columns, text: lent_length(random, text) }
 }
 
 fn any_read(random: &mut Random) -> ReadCase {
     let large = random.one_in(1_000);
-    let lists = if large { graphs::large(random) } else { graphs::any(random) };
+    let lists = if large { graphs::large(Limits::LENT, random) } else { graphs::any(random) };
     let mut text = texts::sheet(&lists);
     if random.one_in(2) {
-        (0..random.between(1, 2)).for_each(|_| texts::damage(random, &mut text));
+        (0..random.between(1, 2)).for_each(|_| texts::damage(Limits::LENT, random, &mut text));
     }
     ReadCase {
         text,
-        starts: lent_length(random, 2 * lists.starts.len()),
-        columns: lent_length(random, 2 * lists.columns.len()),
+        starts: lent_length(random, NUMBER_BYTES * lists.starts.len()),
+        columns: lent_length(random, NUMBER_BYTES * lists.columns.len()),
     }
 }
 
@@ -202,7 +212,7 @@ pub fn any_program(random: &mut Random) -> ProgramCase {
     let lists = graphs::any(random);
     let mut code = texts::sheet(&lists);
     if random.one_in(5) {
-        (0..random.between(1, 2)).for_each(|_| texts::damage(random, &mut code));
+        (0..random.between(1, 2)).for_each(|_| texts::damage(Limits::PROGRAM, random, &mut code));
     }
     let settings = texts::run_settings(random);
     let factor = check_settings(&settings).map_or(1.0, |checked| checked.factor);
@@ -212,7 +222,8 @@ pub fn any_program(random: &mut Random) -> ProgramCase {
     }
     let mut run_text = texts::run_text(&settings, &values);
     if random.one_in(3) {
-        (0..random.between(1, 2)).for_each(|_| texts::damage(random, &mut run_text));
+        (0..random.between(1, 2))
+            .for_each(|_| texts::damage(Limits::PROGRAM, random, &mut run_text));
     }
     let code = (!random.one_in(50)).then_some(code);
     ProgramCase { code, run_text }

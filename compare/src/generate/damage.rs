@@ -1,24 +1,25 @@
 //! Graphs damaged in one of the ways that the graph's check looks for.
 
 use super::Lists;
+use crate::interface::{LARGEST_NUMBER, as_number};
+use crate::paper::Limits;
 use crate::random::Random;
 
-pub fn damage(random: &mut Random, lists: &mut Lists) {
+pub fn damage(limits: Limits, random: &mut Random, lists: &mut Lists) {
     match random.below(6) {
-        0 => damage_counts(random, lists),
+        0 => damage_counts(limits, random, lists),
         1 => damage_starts(random, lists),
-        2 => damage_columns(random, lists),
+        2 => damage_columns(limits, random, lists),
         3 => damage_order(random, lists),
         4 => damage_check_degrees(random, lists),
         _ => damage_variable_degrees(random, lists),
     }
 }
 
-fn damage_counts(random: &mut Random, lists: &mut Lists) {
+fn damage_counts(limits: Limits, random: &mut Random, lists: &mut Lists) {
+    let past = limits.variables + 1;
     match random.below(4) {
-        0 => {
-            lists.n = random.pick(&[0, 1, 8_193, 65_536, 65_538, 1 << 32, 1 << 32 | 4, usize::MAX])
-        }
+        0 => lists.n = random.pick(&[0, 1, past, 65_536, 65_538, 1 << 32, 1 << 32 | 4, usize::MAX]),
         1 => lists.starts.truncate(random.below(2)),
         2 => lists.n = lists.n.saturating_sub(1),
         _ => lists.n = lists.n.saturating_add(1),
@@ -36,21 +37,21 @@ fn damage_starts(random: &mut Random, lists: &mut Lists) {
     };
     let start = &mut lists.starts[index];
     *start = match random.below(4) {
-        0 => start.wrapping_add(1),
-        1 => start.wrapping_sub(1),
-        2 => random.pick(&[0, 1, u16::MAX, 1 << 15]),
-        _ => random.word() as u16,
+        0 => as_number((*start as usize).wrapping_add(1)),
+        1 => as_number((*start as usize).wrapping_sub(1)),
+        2 => random.pick(&[0, 1, LARGEST_NUMBER, LARGEST_NUMBER / 2 + 1]),
+        _ => as_number(random.word() as usize),
     };
 }
 
-fn damage_columns(random: &mut Random, lists: &mut Lists) {
+fn damage_columns(limits: Limits, random: &mut Random, lists: &mut Lists) {
     if lists.columns.is_empty() {
         return;
     }
     for _ in 0..random.between(1, 2) {
         let index = random.below(lists.columns.len());
-        let past = lists.n as u16;
-        lists.columns[index] = random.pick(&[past, past.wrapping_add(1), u16::MAX, 8_192, 0]);
+        let (n, most, largest) = (lists.n, limits.variables, LARGEST_NUMBER as usize);
+        lists.columns[index] = as_number(random.pick(&[n, n.wrapping_add(1), largest, most, 0]));
     }
 }
 
@@ -75,7 +76,7 @@ fn damage_check_degrees(random: &mut Random, lists: &mut Lists) {
     match random.below(4) {
         0 => lists.starts.insert(index, lists.starts[index]),
         1 => lists.starts[index] = lists.starts[index - 1],
-        2 => lists.starts[index] = lists.starts[index - 1].wrapping_add(1),
+        2 => lists.starts[index] = as_number((lists.starts[index - 1] as usize).wrapping_add(1)),
         _ => drop(lists.starts.remove(index)),
     }
     if random.one_in(2) {
@@ -92,7 +93,7 @@ fn damage_variable_degrees(random: &mut Random, lists: &mut Lists) {
     let degree = lists.columns.iter().filter(|&&variable| variable == 0).count();
     for _ in degree..33 {
         lists.columns.extend([0, 1]);
-        lists.starts.push(lists.columns.len() as u16);
+        lists.starts.push(as_number(lists.columns.len()));
     }
 }
 

@@ -1,22 +1,23 @@
 //! Admitted graphs.
 
-use crate::paper::Graph;
+use crate::interface::as_number;
+use crate::paper::{Graph, Limits};
 use crate::random::Random;
 
 /// A graph that owns its lists. Nothing says that it is admitted.
 #[derive(Clone, Debug, PartialEq, Eq)]
 pub struct Lists {
     pub n: usize,
-    pub starts: Vec<u16>,
-    pub columns: Vec<u16>,
+    pub starts: Vec<u32>,
+    pub columns: Vec<u32>,
 }
 
 impl Lists {
-    pub fn from_rows(n: usize, rows: &[Vec<u16>]) -> Lists {
+    pub fn from_rows(n: usize, rows: &[Vec<u32>]) -> Lists {
         let mut lists = Lists { n, starts: vec![0], columns: Vec::new() };
         for row in rows {
             lists.columns.extend_from_slice(row);
-            lists.starts.push(lists.columns.len() as u16);
+            lists.starts.push(as_number(lists.columns.len()));
         }
         lists
     }
@@ -26,7 +27,7 @@ impl Lists {
     }
 
     /// The rows, for starts that are in order.
-    pub fn rows(&self) -> Vec<Vec<u16>> {
+    pub fn rows(&self) -> Vec<Vec<u32>> {
         self.graph().rows().map(|row| self.columns[row].to_vec()).collect()
     }
 }
@@ -44,12 +45,12 @@ pub fn any(random: &mut Random) -> Lists {
     irregular(random, variables, checks, most)
 }
 
-/// Thousands of entries, by one of a few shapes near the limits.
-pub fn large(random: &mut Random) -> Lists {
+/// Thousands of entries, by one of a few shapes, most of them near the limits.
+pub fn large(limits: Limits, random: &mut Random) -> Lists {
     match random.below(5) {
-        0 => regular(random, 8_192, 4, 4),
-        1 => regular(random, 1_024, 32, 64),
-        2 => regular(random, 8_190, 3, 6),
+        0 => fullest(limits, random),
+        1 => regular(random, limits.entries / 32, 32, 64),
+        2 => regular(random, limits.variables - 2, 3, 6),
         3 => irregular(random, 4_000, 1_500, 20),
         _ => irregular(random, 2_000, 900, 64),
     }
@@ -59,7 +60,7 @@ pub fn large(random: &mut Random) -> Lists {
 /// one where there is room, or left out of the graph.
 pub fn irregular(random: &mut Random, variables: usize, checks: usize, most: usize) -> Lists {
     let mut degrees = vec![0; variables];
-    let mut rows: Vec<Vec<u16>> = Vec::new();
+    let mut rows: Vec<Vec<u32>> = Vec::new();
     for _ in 0..checks {
         let mut open: Vec<usize> = (0..variables).filter(|&v| degrees[v] < 32).collect();
         if open.len() < 2 {
@@ -68,12 +69,12 @@ pub fn irregular(random: &mut Random, variables: usize, checks: usize, most: usi
         random.shuffle(&mut open);
         open.truncate(random.between(2, most));
         open.iter().for_each(|&variable| degrees[variable] += 1);
-        rows.push(open.into_iter().map(|variable| variable as u16).collect());
+        rows.push(open.into_iter().map(as_number).collect());
     }
     for variable in (0..variables).filter(|&variable| degrees[variable] == 0) {
         let row = random.below(rows.len());
         if rows[row].len() < 64 && !random.one_in(4) {
-            rows[row].push(variable as u16);
+            rows[row].push(as_number(variable));
         }
     }
     rows.iter_mut().for_each(|row| row.sort_unstable());
@@ -86,13 +87,19 @@ pub fn without_idle_variables(lists: &Lists) -> (Lists, Vec<usize>) {
     let mut used = vec![false; lists.n];
     lists.columns.iter().for_each(|&variable| used[variable as usize] = true);
     let kept: Vec<usize> = (0..lists.n).filter(|&variable| used[variable]).collect();
-    let renumbered = |old: &u16| kept.partition_point(|&variable| variable < *old as usize);
-    let columns = lists.columns.iter().map(|old| renumbered(old) as u16).collect();
+    let renumbered = |old: &u32| kept.partition_point(|&variable| variable < *old as usize);
+    let columns = lists.columns.iter().map(|old| as_number(renumbered(old))).collect();
     (Lists { n: kept.len(), starts: lists.starts.clone(), columns }, kept)
 }
 
-/// Every variable of one degree and every check of another: shuffled sockets, with
-/// repeats in a row swapped away.
+/// As many variables, checks and entries as there can be.
+pub fn fullest(limits: Limits, random: &mut Random) -> Lists {
+    let Limits { variables, checks, entries } = limits;
+    regular(random, variables, entries / variables, entries / checks)
+}
+
+/// Every variable of one degree and every check of another, but for a last check of the
+/// entries that are left: shuffled sockets, with repeats in a row swapped away.
 pub fn regular(
     random: &mut Random,
     n: usize,
@@ -100,8 +107,7 @@ pub fn regular(
     check_degree: usize,
 ) -> Lists {
     let sockets = n * variable_degree;
-    assert_eq!(sockets % check_degree, 0, "the degrees do not fit n");
-    let mut columns: Vec<u16> = (0..sockets).map(|socket| (socket % n) as u16).collect();
+    let mut columns: Vec<u32> = (0..sockets).map(|socket| as_number(socket % n)).collect();
     random.shuffle(&mut columns);
     loop {
         columns.chunks_mut(check_degree).for_each(|row| row.sort_unstable());
@@ -115,6 +121,6 @@ pub fn regular(
             columns.swap(entry, random.below(sockets));
         }
     }
-    let rows: Vec<Vec<u16>> = columns.chunks(check_degree).map(<[u16]>::to_vec).collect();
+    let rows: Vec<Vec<u32>> = columns.chunks(check_degree).map(<[u32]>::to_vec).collect();
     Lists::from_rows(n, &rows)
 }

@@ -1,28 +1,30 @@
 //! Graphs and texts at the limits and one past them.
 
-use super::graphs::{Lists, regular};
+use super::graphs::{Lists, fullest, regular};
 use super::texts;
 use crate::interface::Settings;
+use crate::paper::Limits;
 use crate::random::Random;
 
 /// Every count and degree at its least and most, and past its most.
-pub fn graphs(random: &mut Random) -> Vec<Lists> {
+pub fn graphs(limits: Limits, random: &mut Random) -> Vec<Lists> {
+    let Limits { variables, checks, entries } = limits;
     let pairs = |checks: usize| vec![vec![0, 1]; checks];
-    let all = |degree: u16| (0..degree).collect::<Vec<u16>>();
-    let fullest = regular(random, 8_192, 4, 4);
+    let all = |degree: u32| (0..degree).collect::<Vec<u32>>();
+    let fullest = fullest(limits, random);
     vec![
         Lists::from_rows(2, &pairs(1)),
         Lists::from_rows(2, &pairs(32)),
         Lists::from_rows(64, &[all(64)]),
-        regular(random, 1_024, 32, 64),
-        regular(random, 8_192, 4, 64),
-        regular(random, 8_192, 1, 2),
-        regular(random, 512, 32, 2),
+        regular(random, entries / 32, 32, 64),
+        regular(random, variables, entries / variables, 64),
+        regular(random, variables, 1, 2),
+        regular(random, checks * 2 / 32, 32, 2),
         Lists::from_rows(2, &pairs(33)),
         Lists::from_rows(65, &[all(65)]),
         Lists::from_rows(1, &[vec![0]]),
-        regular(random, 8_193, 1, 3),
-        regular(random, 5_462, 3, 2),
+        regular(random, variables + 1, 1, 3),
+        regular(random, (checks + 1) * 2 / 3, 3, 2),
         with_more(65_536, 0),
         with_more(0, 65_536),
         one_entry_more(&fullest),
@@ -38,7 +40,7 @@ fn with_more(more_starts: usize, more_columns: usize) -> Lists {
     lists
 }
 
-/// 32,769 entries: check 0 of the fullest graph gets one variable more.
+/// Check 0 of the fullest graph gets one variable more.
 fn one_entry_more(fullest: &Lists) -> Lists {
     let mut rows = fullest.rows();
     let absent = (0..).find(|variable| !rows[0].contains(variable));
@@ -48,10 +50,11 @@ fn one_entry_more(fullest: &Lists) -> Lists {
 }
 
 /// Sheets of `graphs`, and the fullest one with more bytes after its last entry.
-pub fn sheets(random: &mut Random) -> Vec<Vec<u8>> {
-    let mut sheets: Vec<Vec<u8>> = graphs(random).iter().map(texts::sheet).collect();
+pub fn sheets(limits: Limits, random: &mut Random) -> Vec<Vec<u8>> {
+    let mut sheets: Vec<Vec<u8>> = graphs(limits, random).iter().map(texts::sheet).collect();
     let fullest = sheets[sheets.len() - 1].clone();
-    for more in ["\n", "0", "9999 9999\n", "?\n", "8191 8191"] {
+    let last = format!("{} {}", limits.checks - 1, limits.variables - 1);
+    for more in ["\n", "0", "9999 9999\n", "?\n", &last] {
         sheets.push([&fullest[..], more.as_bytes()].concat());
     }
     sheets.push(fullest[..fullest.len() - 1].to_vec());
@@ -94,8 +97,8 @@ pub fn programs() -> Vec<(Vec<u8>, Vec<u8>)> {
 }
 
 /// Checks of 64 variables, or what is left, each variable in one of them.
-fn rows_of_one_use(n: u16) -> Vec<Vec<u16>> {
-    (0..n).collect::<Vec<u16>>().chunks(64).map(<[u16]>::to_vec).collect()
+fn rows_of_one_use(n: u32) -> Vec<Vec<u32>> {
+    (0..n).collect::<Vec<u32>>().chunks(64).map(<[u32]>::to_vec).collect()
 }
 
 /// An admitted graph's sheet that fills the program's room to the byte. 7,000 variables in

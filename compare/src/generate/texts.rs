@@ -1,7 +1,8 @@
 //! Sheets and run texts, good and damaged.
 
 use super::{Lists, settings};
-use crate::interface::Settings;
+use crate::interface::{LARGEST_NUMBER, Settings};
+use crate::paper::Limits;
 use crate::random::Random;
 
 /// The sheet of any lists whose starts are in order, admitted or not.
@@ -46,10 +47,10 @@ pub fn run_settings(random: &mut Random) -> Settings {
 }
 
 /// One damage somewhere in a text, by bytes, by words or by lines.
-pub fn damage(random: &mut Random, text: &mut Vec<u8>) {
+pub fn damage(limits: Limits, random: &mut Random, text: &mut Vec<u8>) {
     match random.below(3) {
         0 => damage_bytes(random, text),
-        1 => damage_words(random, text),
+        1 => damage_words(limits, random, text),
         _ => damage_lines(random, text),
     }
 }
@@ -71,7 +72,7 @@ fn damage_bytes(random: &mut Random, text: &mut Vec<u8>) {
 
 /// Puts another word in the place of one: numbers near a limit, congruent to a good one,
 /// very long, or of another form.
-fn damage_words(random: &mut Random, text: &mut Vec<u8>) {
+fn damage_words(limits: Limits, random: &mut Random, text: &mut Vec<u8>) {
     let is_end = |byte: u8| byte == b' ' || byte == b'\n';
     let at = match random.below(4) {
         0 => random.below(text.len().min(70) + 1),
@@ -82,13 +83,14 @@ fn damage_words(random: &mut Random, text: &mut Vec<u8>) {
     let end = length.map_or(text.len(), |length| start + length);
     let old = String::from_utf8_lossy(&text[start..end]).into_owned();
     let number: u128 = old.parse().unwrap_or(0);
+    let (most, largest) = (limits.variables, LARGEST_NUMBER as usize);
     let word = match random.below(12) {
         0 => format!("0{old}"),
         1 => number.saturating_add(1).to_string(),
         2 => number.saturating_sub(1).to_string(),
         3 => number.saturating_add(1 << random.pick(&[8, 16, 32, 64])).to_string(),
         4 => format!("{old}{}", "0".repeat(random.between(1, 60))),
-        5 => random.pick(&["8191", "8192", "8193", "0", "1", "2", "32768", "65535"]).to_string(),
+        5 => random.pick(&[most - 1, most, most + 1, 0, 1, 2, limits.entries, largest]).to_string(),
         6 => random.pick(&["", " ", "00", "+1", "-1", "1.", "1e1", "0x1"]).to_string(),
         7 => old.to_uppercase(),
         8 => random.pick(&["256", "99999", "100000", "3f80000", "3f8000000"]).to_string(),

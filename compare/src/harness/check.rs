@@ -6,9 +6,9 @@ use super::twins::check_twin;
 use crate::generate::cases::{Case, DecodeCase, ReadCase, WriteCase};
 use crate::interface::{
     Answer, DecodeInput, Decoded, Decoder, GraphBytes, Lent, SheetCounts, f32_list, i32_bytes,
-    u16_bytes, u16_list,
+    number_bytes, numbers,
 };
-use crate::paper::{self, Graph, Level, Refusal};
+use crate::paper::{self, Graph, Level, Limits, Refusal};
 use crate::random::Random;
 use std::fmt::Debug;
 
@@ -28,10 +28,10 @@ fn check_decode(
     decoder: &dyn Decoder,
     random: &mut Random,
 ) -> Result<Seen, String> {
-    let (starts, columns) = (u16_list(&case.starts), u16_list(&case.columns));
+    let (starts, columns) = (numbers(&case.starts), numbers(&case.columns));
     let graph = Graph { n: case.n, starts: &starts, columns: &columns };
     let values = f32_list(&case.values);
-    let expected = paper::decode(&graph, &values, &case.settings, &case.lent);
+    let expected = paper::decode(Limits::LENT, &graph, &values, &case.settings, &case.lent);
 
     let mut arena = Arena::new(
         random,
@@ -81,7 +81,7 @@ fn check_decode(
 }
 
 fn check_read(case: &ReadCase, decoder: &dyn Decoder, random: &mut Random) -> Result<Seen, String> {
-    let expected = paper::read_sheet(&case.text, case.starts, case.columns);
+    let expected = paper::read_sheet(Limits::LENT, &case.text, case.starts, case.columns);
     let mut arena = Arena::new(
         random,
         &[
@@ -91,8 +91,10 @@ fn check_read(case: &ReadCase, decoder: &dyn Decoder, random: &mut Random) -> Re
         ],
     );
     let expected_bytes = match &expected {
-        Ok(sheet) => arena
-            .with(&[("starts", u16_bytes(&sheet.starts)), ("columns", u16_bytes(&sheet.columns))]),
+        Ok(sheet) => arena.with(&[
+            ("starts", number_bytes(&sheet.starts)),
+            ("columns", number_bytes(&sheet.columns)),
+        ]),
         Err(_) => arena.with(&[]),
     };
     let [starts, text, columns] = arena.slices();
@@ -114,9 +116,9 @@ fn check_write(
     decoder: &dyn Decoder,
     random: &mut Random,
 ) -> Result<Seen, String> {
-    let (starts, columns) = (u16_list(&case.starts), u16_list(&case.columns));
+    let (starts, columns) = (numbers(&case.starts), numbers(&case.columns));
     let graph = Graph { n: case.n, starts: &starts, columns: &columns };
-    let expected = paper::write_sheet(&graph, case.text);
+    let expected = paper::write_sheet(Limits::LENT, &graph, case.text);
     let mut arena = Arena::new(
         random,
         &[

@@ -2,7 +2,7 @@
 
 use super::series::{Failure, Series};
 use crate::generate::cases::{Case, DecodeCase};
-use crate::interface::{f32_list, u16_list};
+use crate::interface::{f32_list, numbers};
 use std::fmt::{self, Display, Formatter};
 
 /// A list of at most this many elements is printed whole.
@@ -21,9 +21,9 @@ fn graph(n: usize, starts: &[u8], columns: &[u8]) -> String {
     format!(
         "  n {n}\n  starts ({} bytes) {}\n  columns ({} bytes) {}\n",
         starts.len(),
-        listed(&u16_list(starts)),
+        listed(&numbers(starts)),
         columns.len(),
-        listed(&u16_list(columns)),
+        listed(&numbers(columns)),
     )
 }
 

@@ -3,7 +3,8 @@
 use crate::generate::Lists;
 use crate::generate::cases::{Case, DecodeCase, WriteCase};
 use crate::generate::graphs::without_idle_variables;
-use crate::interface::{LentLengths, Settings, f32_bytes, f32_list, u16_bytes, u16_list};
+use crate::interface::{LentLengths, Settings, f32_bytes, f32_list, number_bytes, numbers};
+use crate::paper::Limits;
 use std::ops::Range;
 use std::time::{Duration, Instant};
 
@@ -131,7 +132,7 @@ fn cut(case: &Case, dimension: Dimension, part: Range<usize>) -> Option<Case> {
         Dimension::Variables => {
             let lists = lists_of(case)?;
             let mut rows = lists.rows();
-            rows.iter_mut().for_each(|row| row.retain(|&v| !part.contains(&usize::from(v))));
+            rows.iter_mut().for_each(|row| row.retain(|&v| !part.contains(&(v as usize))));
             let (smaller, kept) = without_idle_variables(&Lists::from_rows(lists.n, &rows));
             (smaller.n < lists.n).then(|| on_lists(case, &smaller, Some(&kept)))
         }
@@ -184,25 +185,26 @@ fn lists_of(case: &Case) -> Option<Lists> {
         Case::Write(WriteCase { n, starts, columns, .. }) => (*n, starts, columns),
         _ => decode_of(case).map(|case| (case.n, &case.starts, &case.columns))?,
     };
-    Some(Lists { n, starts: u16_list(starts), columns: u16_list(columns) })
+    Some(Lists { n, starts: numbers(starts), columns: numbers(columns) })
 }
 
-/// Starts in order and columns in range, so that rows can be cut out.
+/// Variables that can be listed, starts in order and columns in range, so that rows can be
+/// cut out.
 fn has_rows(lists: &Lists) -> bool {
     let starts = &lists.starts;
-    lists.n <= 1 << 16
+    lists.n <= 8 * Limits::LENT.variables
         && starts.first() == Some(&0)
         && starts.is_sorted()
-        && starts.last().map(|&last| usize::from(last)) == Some(lists.columns.len())
-        && lists.columns.iter().all(|&column| usize::from(column) < lists.n)
+        && starts.last().map(|&last| last as usize) == Some(lists.columns.len())
+        && lists.columns.iter().all(|&column| (column as usize) < lists.n)
 }
 
 /// The case on other lists, with the values and word of the variables that were kept, and
 /// decode's buffers as much too long or short as before.
 fn on_lists(case: &Case, lists: &Lists, kept: Option<&[usize]>) -> Case {
-    let (starts, columns) = (u16_bytes(&lists.starts), u16_bytes(&lists.columns));
+    let (starts, columns) = (number_bytes(&lists.starts), number_bytes(&lists.columns));
     let mut case = with_decode(case, |decode| {
-        let (before, after) = (needed(decode), LentLengths::needed(lists.n, columns.len() / 2));
+        let (before, after) = (needed(decode), LentLengths::needed(lists.n, lists.columns.len()));
         let mut lent = decode.lent.as_array();
         for (index, length) in lent.iter_mut().enumerate() {
             let (before, after) = (before.as_array()[index], after.as_array()[index]);
@@ -231,7 +233,7 @@ fn on_lists(case: &Case, lists: &Lists, kept: Option<&[usize]>) -> Case {
 }
 
 fn needed(case: &DecodeCase) -> LentLengths {
-    LentLengths::needed(case.n, case.columns.len() / 2)
+    LentLengths::needed(case.n, case.entries())
 }
 
 fn kept_of<T: Copy>(list: &[T], kept: &[usize]) -> Vec<T> {

@@ -4,9 +4,9 @@
 use super::series::Seen;
 use crate::generate::cases::{DecodeCase, TwinCase};
 use crate::interface::{
-    Answer, DecodeInput, Decoded, Decoder, GraphBytes, Lent, Settings, u16_list,
+    Answer, DecodeInput, Decoded, Decoder, GraphBytes, Lent, Settings, numbers,
 };
-use crate::paper::{Graph, count_odd_checks};
+use crate::paper::{Graph, Limits, count_odd_checks};
 
 /// What a run reports and leaves behind.
 struct Run {
@@ -20,10 +20,10 @@ struct Run {
 
 pub fn check_twin(case: &TwinCase, decoder: &dyn Decoder) -> Result<Seen, String> {
     let decode = &case.decode;
-    let (starts, columns) = (u16_list(&decode.starts), u16_list(&decode.columns));
+    let (starts, columns) = (numbers(&decode.starts), numbers(&decode.columns));
     let graph = Graph { n: decode.n, starts: &starts, columns: &columns };
     let seen = |call| Ok(Seen { call, refusal: 0, iterations: None });
-    let Ok(odd_checks) = count_odd_checks(&graph, &case.word) else {
+    let Ok(odd_checks) = count_odd_checks(Limits::LENT, &graph, &case.word) else {
         return seen("no twin");
     };
     if odd_checks == 0 {
@@ -82,7 +82,7 @@ fn run(
 }
 
 /// Whether two runs of the same graph and settings mirror each other by the word.
-fn mirrors(run: &Run, twin: &Run, word: &[u8], columns: &[u16]) -> Result<(), String> {
+fn mirrors(run: &Run, twin: &Run, word: &[u8], columns: &[u32]) -> Result<(), String> {
     if run.decoded != twin.decoded {
         return Err(format!("twin runs give {:?} and {:?}", run.decoded, twin.decoded));
     }

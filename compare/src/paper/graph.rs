@@ -1,20 +1,15 @@
 //! The parity-check graph: its check, a check's row, and the odd checks of given bits.
 
+use super::limits::{CHECK_DEGREES, Limits, VARIABLE_DEGREES};
 use super::{Refusal, refuse};
-use std::ops::{Range, RangeInclusive};
+use std::ops::Range;
 
-pub const VARIABLES: RangeInclusive<usize> = 2..=8_192;
-pub const CHECKS: RangeInclusive<usize> = 1..=8_192;
-pub const MOST_ENTRIES: usize = 32_768;
-pub const CHECK_DEGREES: RangeInclusive<usize> = 2..=64;
-pub const VARIABLE_DEGREES: RangeInclusive<usize> = 1..=32;
-
-/// "Two u16 lists hold the graph: m+1 row starts, and E columns in check order."
+/// "m+1 row starts, and E columns in check order", as numbers of whatever width.
 #[derive(Clone, Copy, Debug)]
 pub struct Graph<'a> {
     pub n: usize,
-    pub starts: &'a [u16],
-    pub columns: &'a [u16],
+    pub starts: &'a [u32],
+    pub columns: &'a [u32],
 }
 
 impl<'a> Graph<'a> {
@@ -47,18 +42,18 @@ impl<'a> Graph<'a> {
 }
 
 /// "Each looked for over the whole input before the next."
-pub fn check_graph(graph: &Graph) -> Result<(), Refusal> {
-    check_counts(graph)?;
+pub fn check_graph(limits: Limits, graph: &Graph) -> Result<(), Refusal> {
+    check_counts(limits, graph)?;
     check_starts(graph)?;
     check_columns_below_n(graph)?;
     check_columns_rising(graph)?;
     check_degrees(graph)
 }
 
-fn check_counts(graph: &Graph) -> Result<(), Refusal> {
-    let admitted = VARIABLES.contains(&graph.n)
-        && CHECKS.contains(&graph.m())
-        && graph.entries() <= MOST_ENTRIES;
+fn check_counts(limits: Limits, graph: &Graph) -> Result<(), Refusal> {
+    let admitted = limits.admit_variables(graph.n)
+        && limits.admit_checks(graph.m())
+        && limits.admit_entries(graph.entries());
     if admitted { Ok(()) } else { refuse(2, 0) }
 }
 
@@ -111,16 +106,20 @@ fn check_degrees(graph: &Graph) -> Result<(), Refusal> {
 }
 
 /// "The columns of one check are handed back as that part of the caller's list."
-pub fn row_of_check<'a>(graph: &Graph<'a>, check: usize) -> Result<&'a [u16], Refusal> {
-    check_graph(graph)?;
+pub fn row_of_check<'a>(
+    limits: Limits,
+    graph: &Graph<'a>,
+    check: usize,
+) -> Result<&'a [u32], Refusal> {
+    check_graph(limits, graph)?;
     if check >= graph.m() {
         return refuse(3, check);
     }
     Ok(&graph.columns[graph.row(check)])
 }
 
-pub fn count_odd_checks(graph: &Graph, bits: &[u8]) -> Result<usize, Refusal> {
-    check_graph(graph)?;
+pub fn count_odd_checks(limits: Limits, graph: &Graph, bits: &[u8]) -> Result<usize, Refusal> {
+    check_graph(limits, graph)?;
     if bits.len() != graph.n {
         return refuse(13, 0);
     }

@@ -1,5 +1,6 @@
 //! The program `frame` as a function of the sheet and the run text.
 
+use super::limits::Limits;
 use super::run::{Outcome, decode};
 use super::sheet::{Sheet, read_sheet};
 use super::text::{Text, decimal, f32_of_digits, words};
@@ -28,13 +29,13 @@ fn decoded(code: &[u8], run_text: &[u8]) -> Result<Outcome, Refusal> {
     if code.len() > MOST_BYTES {
         return refuse(2, 0);
     }
-    let sheet = read_sheet(code, usize::MAX, usize::MAX)?;
+    let sheet = read_sheet(Limits::PROGRAM, code, usize::MAX, usize::MAX)?;
     if run_text.len() > MOST_BYTES {
         return refuse(14, 0);
     }
     let (settings, values) = read_run_text(run_text, &sheet)?;
     let lent = LentLengths::needed(sheet.n, sheet.columns.len());
-    decode(&sheet.graph(), &values, &settings, &lent)
+    decode(Limits::PROGRAM, &sheet.graph(), &values, &settings, &lent)
 }
 
 /// 14, "the first line that is of other form, missing, extra or without LF (its line)".

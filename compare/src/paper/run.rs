@@ -1,6 +1,7 @@
 //! Decode: what it turns down, and the run over the iterations.
 
 use super::graph::{Graph, check_graph, odd_checks};
+use super::limits::Limits;
 use super::quantiser::{Level, Scaling, largest_magnitude, quantise};
 use super::rules::{
     Offsets, bit, check_message, first_message, outgoing_sum, posterior_sum, variable_message,
@@ -32,12 +33,13 @@ pub struct Checked {
 }
 
 pub fn decode(
+    limits: Limits,
     graph: &Graph,
     values: &[f32],
     settings: &Settings,
     lent: &LentLengths,
 ) -> Result<Outcome, Refusal> {
-    check_graph(graph)?;
+    check_graph(limits, graph)?;
     if values.len() != graph.n {
         return refuse(13, values.len());
     }
@@ -99,7 +101,7 @@ fn run(graph: &Graph, values: &[f32], settings: &Checked) -> Outcome {
 
     let channel = |&y: &f32| quantise(settings.factor, settings.nch, y);
     let levels: Vec<Level> = values.iter().map(channel).collect();
-    let sent = |&variable: &u16| first_message(levels[variable as usize], settings.nq);
+    let sent = |&variable: &u32| first_message(levels[variable as usize], settings.nq);
     let mut variable_messages: Vec<Level> = graph.columns.iter().map(sent).collect();
     let mut check_messages = vec![nothing; graph.entries()];
     let mut sums = vec![0; graph.n];

@@ -1,8 +1,10 @@
 //! The code sheet: read and written.
 
-use super::graph::{CHECKS, Graph, MOST_ENTRIES, VARIABLES, check_graph};
+use super::graph::{Graph, check_graph};
+use super::limits::Limits;
 use super::text::{Text, decimal, words};
 use super::{Refusal, refuse};
+use crate::interface::NUMBER_BYTES;
 
 const COUNTS_HEADER: &[u8] = b"variables checks";
 const ENTRIES_HEADER: &[u8] = b"check variable";
@@ -12,8 +14,8 @@ const LINES_BEFORE_ENTRIES: usize = 3;
 #[derive(Clone, Debug, PartialEq, Eq)]
 pub struct Sheet {
     pub n: usize,
-    pub starts: Vec<u16>,
-    pub columns: Vec<u16>,
+    pub starts: Vec<u32>,
+    pub columns: Vec<u32>,
 }
 
 impl Sheet {
@@ -24,14 +26,20 @@ impl Sheet {
 
 /// "Top line first, place the line counted from 1"; then 5, then 6 for the two lent
 /// lists, whose lengths are in bytes.
-pub fn read_sheet(bytes: &[u8], starts_lent: usize, columns_lent: usize) -> Result<Sheet, Refusal> {
+pub fn read_sheet(
+    limits: Limits,
+    bytes: &[u8],
+    starts_lent: usize,
+    columns_lent: usize,
+) -> Result<Sheet, Refusal> {
     let text = Text::new(bytes);
     check_header(&text, 1, COUNTS_HEADER)?;
-    let (n, m) = counts(&text, 2)?;
+    let (n, m) = counts(limits, &text, 2)?;
     check_header(&text, 3, ENTRIES_HEADER)?;
-    let sheet = graph_of(n, m, &entries(&text, n, m)?);
-    check_graph(&sheet.graph())?;
-    if starts_lent < 2 * sheet.starts.len() || columns_lent < 2 * sheet.columns.len() {
+    let sheet = graph_of(n, m, &entries(limits, &text, n, m)?);
+    check_graph(limits, &sheet.graph())?;
+    let too_short = |lent: usize, list: &[u32]| lent < NUMBER_BYTES * list.len();
+    if too_short(starts_lent, &sheet.starts) || too_short(columns_lent, &sheet.columns) {
         return refuse(6, 0);
     }
     Ok(sheet)
@@ -51,19 +59,24 @@ fn two_numbers(line: &[u8]) -> Option<(usize, usize)> {
     }
 }
 
-fn counts(text: &Text, line: usize) -> Result<(usize, usize), Refusal> {
+fn counts(limits: Limits, text: &Text, line: usize) -> Result<(usize, usize), Refusal> {
     match text.line(line).and_then(two_numbers) {
         None => refuse(1, line),
-        Some((n, m)) if VARIABLES.contains(&n) && CHECKS.contains(&m) => Ok((n, m)),
+        Some((n, m)) if limits.admit_variables(n) && limits.admit_checks(m) => Ok((n, m)),
         Some(_) => refuse(2, line),
     }
 }
 
 /// The entry lines: 2 for one too many "before its form", then 1, 3 and 4.
-fn entries(text: &Text, n: usize, m: usize) -> Result<Vec<(usize, usize)>, Refusal> {
+fn entries(
+    limits: Limits,
+    text: &Text,
+    n: usize,
+    m: usize,
+) -> Result<Vec<(usize, usize)>, Refusal> {
     let mut entries = Vec::new();
     for line in LINES_BEFORE_ENTRIES + 1..=text.begun() {
-        if entries.len() == MOST_ENTRIES {
+        if entries.len() == limits.entries {
             return refuse(2, line);
         }
         let Some((check, variable)) = text.line(line).and_then(two_numbers) else {
@@ -84,14 +97,14 @@ fn graph_of(n: usize, m: usize, entries: &[(usize, usize)]) -> Sheet {
     let entries_before = |check: usize| entries.partition_point(|entry| entry.0 < check);
     Sheet {
         n,
-        starts: (0..=m).map(|check| entries_before(check) as u16).collect(),
-        columns: entries.iter().map(|entry| entry.1 as u16).collect(),
+        starts: (0..=m).map(|check| entries_before(check) as u32).collect(),
+        columns: entries.iter().map(|entry| entry.1 as u32).collect(),
     }
 }
 
 /// "The writer gives this text and its length"; 6 when the lent text is shorter.
-pub fn write_sheet(graph: &Graph, text_lent: usize) -> Result<Vec<u8>, Refusal> {
-    check_graph(graph)?;
+pub fn write_sheet(limits: Limits, graph: &Graph, text_lent: usize) -> Result<Vec<u8>, Refusal> {
+    check_graph(limits, graph)?;
     let mut text = Vec::new();
     push_line(&mut text, COUNTS_HEADER);
     push_line(&mut text, format!("{} {}", graph.n, graph.m()).as_bytes());

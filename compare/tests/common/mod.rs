@@ -2,7 +2,7 @@
 #![allow(dead_code)]
 
 use compare::interface::{LentLengths, Settings};
-use compare::paper::{Graph, Level, Outcome, Refusal, decode};
+use compare::paper::{Graph, Level, Limits, Outcome, Refusal, decode};
 
 pub fn plus(magnitude: u8) -> Level {
     Level { minus: false, magnitude }
@@ -43,7 +43,8 @@ pub fn decode_freely(
     values: &[f32],
     settings: &Settings,
 ) -> Result<Outcome, Refusal> {
-    decode(graph, values, settings, &LentLengths::needed(8_192, 32_768))
+    let limits = Limits::LENT;
+    decode(limits, graph, values, settings, &LentLengths::needed(limits.variables, limits.entries))
 }
 
 pub fn lines(lines: &[&str]) -> Vec<u8> {
