@@ -14,7 +14,7 @@ extern "C" {
 #endif
 
 /* How many bytes of stack a call or its companion takes at most, beside its caller's. Measured on x86-64 on one of the largest graphs: decode
-   38,328, reading a sheet 33,112, writing one 33,192. The compiled calls have frames of fixed size, and recurse only for the digits of a number
+   38,456, reading a sheet 33,112, writing one 33,192. The compiled calls have frames of fixed size, and recurse only for the digits of a number
    above 999,999, which no sheet has, so that no input takes much more. */
 enum { FRAME_DECODE_STACK = 40960, FRAME_READ_SHEET_STACK = 36864, FRAME_WRITE_SHEET_STACK = 36864 };
 

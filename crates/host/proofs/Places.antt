@@ -1,10 +1,12 @@
 -- The place of decode's refusal, from its number, the graph and the values alone.
-use mathlib.Core.Path.{_≡_, refl, sym, ap, subst}
+use mathlib.Core.Path.{_≡_, refl, sym, ap, _∙_, subst}
 use mathlib.Core.Bool.{Bool, true, false, cond, not}
 use mathlib.Core.List.{List}
-use Prim.Native.Nat.{ℕ, _/_, _%_}
+use Prim.Native.Nat.{ℕ, _*_, _/_, _%_, _≤_}
 use native.Mathlib.Omega.{arith}
+use borrow.Author.Tests.{eq-eqb, ne-eqb, le-leb}
 use lib.Dec.{eqb}
+use lib.Ieee.{binary32, lt, ofInt, ofBits}
 use lib.Ieee.Scale.{finite}
 use lib.ListN.{length}
 use Rattle.rules.specs.Graphs.{limits}
@@ -16,24 +18,30 @@ use Rattle.rules.specs.declared.Judged.the-variants.{Admitted, Refused}
 use Rattle.rules.proofs.Judging.{refused-not, each-from}
 use Rattle.words.specs.Roles.{valueAt}
 use Rattle.graph.specs.Judging.{graphJudged}
+use Rattle.graph.proofs.Lending.{lent-alike}
+use Rattle.graph.proofs.Meaning.{graph-admitted}
 use Rattle.channel.specs.declared.Parameters.{Parameters}
-use Rattle.channel.specs.Scaling.{factorOf, scalingAdmitted, infiniteOrZero}
-use Rattle.channel.specs.Settings.{precisionsAdmitted, optionsAdmitted, settingsJudged}
+use Rattle.channel.specs.declared.Scaling.the-variants.{Plain}
+use Rattle.channel.specs.declared.Settings.{Settings}
+use Rattle.channel.specs.declared.Checked.{Checked}
+use Rattle.channel.specs.declared.Checked.the-variants as Checks
+use Rattle.channel.specs.Scaling.{factorOf, positive, scalingAdmitted, infiniteOrZero}
+use Rattle.channel.specs.Settings.{precisionsAdmitted, optionsAdmitted, settings, settingsJudged}
 use Rattle.channel.specs.Values.{valuesJudged}
-use Rattle.decoder.specs.Decoding.{Frame, graph, enough, frameJudged, decodeJudged, decoded}
-use Rattle.host.specs.Packing.{packDecoded, placeOf}
+use Rattle.decoder.specs.declared.Room.{Room}
+use Rattle.decoder.specs.Decoding.{Frame, graph, enough, frameJudged, decodeJudged, frameJudgedIn, decodeJudgedIn, decoded, Accepts}
+use Rattle.decoder.proofs.Accepting.{checked-refused, checked-good}
+use Rattle.host.specs.Packing.{packDecoded, numberOf, placeOf, placesJudged, decodePlace, askedOf}
 use Rattle.host.specs.Theorems.{PlacesTold}
 
--- the number of what is refused, 0 where nothing is
-abbrev numberOf : Judged → ℕ
-numberOf Admitted = 0
-numberOf (Refused r) = paper r .number
-
--- a refusal with place 0, neither 12 nor 13
+-- a refusal with place 0, other than 12
 pub record Placeless (r : Refusal) : Type 0 where
-  pub thirteen : eqb (paper r .number) 13 ≡ false
-  pub twelve : eqb (paper r .number) 12 ≡ false
+  pub twelve : eqb 12 (paper r .number) ≡ false
   pub place : paper r .place ≡ 0
+
+orElse-none : (j : Judged) → orElse j Admitted ≡ j
+orElse-none Admitted = refl
+orElse-none (Refused r) = refl
 
 same : {r s : Refusal} → Refused r ≡ Refused s → r ≡ s
 same {r} {s} e = cc
@@ -46,10 +54,10 @@ settings-placeless p r e =
     is s h d = subst Placeless (same d) h
 
     go : (a b c d : Bool) → orElse (unless a R.Precision) (orElse (unless b R.Option) (orElse (unless c R.Scaling) (unless d R.Factor))) ≡ Refused r → Placeless r
-    go false b c d h = is R.Precision (record { thirteen = refl; twelve = refl; place = refl }) h
-    go true false c d h = is R.Option (record { thirteen = refl; twelve = refl; place = refl }) h
-    go true true false d h = is R.Scaling (record { thirteen = refl; twelve = refl; place = refl }) h
-    go true true true false h = is R.Factor (record { thirteen = refl; twelve = refl; place = refl }) h
+    go false b c d h = is R.Precision (record { twelve = refl; place = refl }) h
+    go true false c d h = is R.Option (record { twelve = refl; place = refl }) h
+    go true true false d h = is R.Scaling (record { twelve = refl; place = refl }) h
+    go true true true false h = is R.Factor (record { twelve = refl; place = refl }) h
     go true true true true h = absurd (refused-not (sym h))
 
 values-twelve : (values : List ℕ) (r : Refusal) → valuesJudged values ≡ Refused r → paper r .number ≡ 12
@@ -60,14 +68,23 @@ values-twelve values r e =
     one v s true d = absurd (refused-not (sym d))
     one v s false d = ap (λ x. paper x .number) (sym (same d))
 
+-- a judgement told by its own number, and by another's
+placed : (j : Judged) (n : ℕ) → n ≡ numberOf j → cond (eqb (numberOf j) n) (placeOf j) 0 ≡ placeOf j
+placed j n e = rw (eq-eqb (numberOf j) n (sym e))
+
+none-placed : (t : Bool) → _≡_ {A = ℕ} (cond t 0 0) 0
+none-placed true = refl
+none-placed false = refl
+
 -- the graph's g, the count's test t, the settings' s, the values' v and the memory's test e, in decode's order
 in-order : (k : ℕ) (g : Judged) (t : Bool) (s v : Judged) (e : Bool) → ((r : Refusal) → s ≡ Refused r → Placeless r) → ((r : Refusal) → v ≡ Refused r → paper r .number ≡ 12)
     → let j : Judged = orElse (orElse g (orElse (unless t (R.Length k)) (orElse s v))) (unless e R.Buffer) in
-    placeOf (orElse g (cond (eqb (numberOf j) 13) (Refused (R.Length k)) (cond (eqb (numberOf j) 12) v Admitted))) ≡ placeOf j
-in-order k (Refused r) t s v e p q = refl
+    let i : Judged = orElse g (orElse (unless t (R.Length k)) v) in cond (eqb (numberOf i) (numberOf j)) (placeOf i) 0 ≡ placeOf j
+in-order k (Refused r) t s v e p q = placed (Refused r) (paper r .number) refl
 in-order k Admitted false s v e p q = refl
-in-order k Admitted true (Refused r) v e p q = rw (p r refl .thirteen, p r refl .twelve, p r refl .place)
-in-order k Admitted true Admitted (Refused r) e p q = rw (q r refl)
+in-order k Admitted true (Refused r) Admitted e p q = none-placed (eqb 0 (paper r .number)) ∙ sym (p r refl .place)
+in-order k Admitted true (Refused r) (Refused x) e p q = rw (q x refl, p r refl .twelve) (sym (p r refl .place))
+in-order k Admitted true Admitted (Refused r) e p q = placed (Refused r) (paper r .number) refl
 in-order k Admitted true Admitted Admitted false p q = refl
 in-order k Admitted true Admitted Admitted true p q = refl
 
@@ -99,3 +116,52 @@ places-told F m =
     rw (number-packed F (decodeJudged F m))
     (in-order (length (F .values) / 4) (graphJudged limits (graph F)) (eqb (length (F .values) / 4) (F .variables)) (settingsJudged (F .asked)) (valuesJudged (F .values))
     (enough (F .variables) (graph F .entries) m) (settings-placeless (F .asked)) (values-twelve (F .values)))
+
+-- ---- accepted with settings that are in order, and enough memory
+
+-- settings that are in order
+pub settled : settingsJudged (askedOf (Plain (ofBits binary32 0x3f80_0000)) 3 3 0 0 0 0) ≡ Admitted
+unfolding positive lt ofInt ofBits
+settled = refl
+
+-- memory that is enough for every graph
+abbrev pub ample : Room
+ample = record {
+  levels = limits .variables;
+  «variable_messages» = limits .entries;
+  «check_messages» = limits .entries;
+  sums = 4 * limits .variables;
+  bits = limits .variables;
+}
+
+ample-enough : (n E : ℕ) → n ≤ limits .variables → E ≤ limits .entries → enough n E ample ≡ true
+ample-enough n E p q = rw (le-leb n (limits .variables) p, le-leb E (limits .entries) q, le-leb (4 * n) (4 * limits .variables) (omega arith))
+
+module _ (F : Frame) (d : ℕ) (good : settingsJudged (F .asked) ≡ Admitted) (list : 4 * limits .variables ≤ d) where
+  pub only-places : decodeJudgedIn F d ample ≡ placesJudged (graph F) (F .values)
+  unfolding decodeJudgedIn frameJudgedIn
+  only-places = rw (lent-alike limits (graph F) d list, good) (go (graphJudged limits (graph F)) refl)
+    where
+      rest : Judged
+      rest = orElse (unless (eqb (length (F .values) / 4) (F .variables)) (R.Length (length (F .values) / 4))) (valuesJudged (F .values))
+
+      go : (g : Judged) → graphJudged limits (graph F) ≡ g → orElse (orElse g rest) (unless (enough (F .variables) (graph F .entries) ample) R.Buffer) ≡ orElse g rest
+      go (Refused r) h = refl
+      go Admitted h =
+          let a = graph-admitted (graph F) h in
+          rw (ample-enough (F .variables) (graph F .entries) (a .variables .1) (a .entries)) (orElse-none rest)
+
+-- the answer of the companion, from what `accept` answers
+module _ (F : Frame) {a : Checked} {old now : List ℕ} (accepts : Accepts F ample a old now) (only : decodeJudgedIn F (length old) ample ≡ placesJudged (graph F) (F .values)) where
+  refused : {r : Refusal} → a ≡ Checks.Refused r → placesJudged (graph F) (F .values) ≡ Refused r
+  refused e = sym only ∙ checked-refused (decodeJudgedIn F (length old) ample) (settings (F .asked)) (sym (accepts .answer) ∙ e)
+
+  pub of-its-number : {r : Refusal} {number : ℕ} → a ≡ Checks.Refused r → paper r .number ≡ number → paper r .place ≡ decodePlace (graph F) (F .values) number
+  of-its-number {r} {number} e n = rw (refused e, eq-eqb (paper r .number) number n)
+
+  pub of-another : {r : Refusal} {number : ℕ} → a ≡ Checks.Refused r → (paper r .number ≡ number → ⊥) → 0 ≡ decodePlace (graph F) (F .values) number
+  of-another {r} {number} e n = rw (refused e, ne-eqb (paper r .number) number n)
+
+  pub of-none : {s : Settings} (number : ℕ) → a ≡ Checks.Good s → 0 ≡ decodePlace (graph F) (F .values) number
+  of-none {s} number e =
+      rw (sym only ∙ checked-good (decodeJudgedIn F (length old) ample) (settings (F .asked)) (sym (accepts .answer) ∙ e)) (sym (none-placed (eqb 0 number)))

@@ -7,7 +7,7 @@ use lib.Dec.{eqb}
 use lib.Ieee.{Float, binary32, ofBits}
 use lib.ListN.{length}
 use Rattle.rules.specs.Graphs.{Graph, limits}
-use Rattle.rules.specs.Refusals.{paper, orElse}
+use Rattle.rules.specs.Refusals.{paper, unless, orElse}
 use Rattle.rules.specs.declared.Judged.{Judged}
 use Rattle.rules.specs.declared.Judged.the-variants as Judgement
 use Rattle.rules.specs.declared.Refusal.the-variants.{Length}
@@ -59,13 +59,19 @@ abbrev pub placeOf : Judged → ℕ
 placeOf Judgement.Admitted = 0
 placeOf (Judgement.Refused r) = paper r .place
 
--- The place of decode's refusal of that number: the graph's; of 13, how many values there are; of 12, the first that is infinite or NaN. All
--- others have place 0.
+-- The number of a refusal, 0 where nothing is refused.
+abbrev pub numberOf : Judged → ℕ
+numberOf Judgement.Admitted = 0
+numberOf (Judgement.Refused r) = paper r .number
+
+-- What decode refuses of the graph and of the values, in its order: the graph's five, 13, 12.
+abbrev pub placesJudged : Graph → List ℕ → Judged
+placesJudged G values =
+    orElse (graphJudged limits G) (orElse (unless (eqb (length values / 4) (G .variables)) (Length (length values / 4))) (valuesJudged values))
+
+-- The place of decode's refusal of that number; all other refusals have place 0.
 abbrev pub decodePlace : Graph → List ℕ → ℕ → ℕ
-decodePlace G values number =
-    placeOf
-    (orElse (graphJudged limits G)
-    (cond (eqb number 13) (Judgement.Refused (Length (length values / 4))) (cond (eqb number 12) (valuesJudged values) Judgement.Admitted)))
+decodePlace G values number = cond (eqb (numberOf (placesJudged G values)) number) (placeOf (placesJudged G values)) 0
 
 -- What the entry for decode promises of its answer r and of the memory, M before and M′ after.
 pub record HostDecodes (F : Frame) (M M′ : Memory) (r : ℕ) : Type 0 where

@@ -3,9 +3,11 @@ ghost use mathlib.Core.Path.{_≡_};
 ghost use Rattle.words.specs.Roles.{graphOf};
 ghost use Rattle.decoder.specs.Frames.{frame, memory};
 ghost use Rattle.host.specs.Packing.{scalingOf, askedOf, verdictOf, packDecoded, placeOf, decodePlace, HostDecodes, Small};
+use channel::Checked;
 use channel::Parameters;
 use channel::Scaling;
 use decoder::Decoded;
+use decoder::Room;
 use rules::Judged;
 use rules::Verdict;
 
@@ -114,7 +116,8 @@ pub extern "C" fn frame_decode(
     pack_decoded(d)
 }
 
-// The place of what `frame_decode` refuses of this graph and these values, where its number is `refusal`; 0 where that is 0.
+// The place of what `frame_decode` refuses of this graph and these values, where its number is `refusal`; 0 where that is 0. Asked with
+// settings that are in order and memory enough for every graph, decode refuses nothing that has no place.
 #[no_mangle]
 pub extern "C" fn frame_decode_place(
     n: usize,
@@ -125,15 +128,29 @@ pub extern "C" fn frame_decode_place(
 ) -> usize
     ensures { λ r. ⌜ r ≡ decodePlace (graphOf n (now (starts .entry)) (now (columns .entry))) (now (values .entry)) refusal ⌝ }
 {
-    let j = graph::check(n, starts, columns);
-    if let Judged::Refused(r) = j {
-        return place_of(Judged::Refused(r));
-    }
-    if refusal == 13 {
-        return values.len() / 4;
-    }
-    if refusal == 12 {
-        return place_of(channel::check_values(values));
+    let asked = Parameters {
+        scaling: Scaling::Plain(1.0),
+        channel: 3,
+        message: 3,
+        phi_s: 0,
+        phi_a: 0,
+        phi_0: 0,
+        limit: 0,
+    };
+    let room = Room {
+        levels: rules::MOST_VARIABLES,
+        variable_messages: rules::MOST_ENTRIES,
+        check_messages: rules::MOST_ENTRIES,
+        sums: 4 * rules::MOST_VARIABLES,
+        bits: rules::MOST_VARIABLES,
+    };
+    let mut degrees = [0u8; 4 * rules::MOST_VARIABLES];
+    let c = decoder::accept(n, starts, columns, values, asked, &mut degrees, room);
+    if let Checked::Refused(r) = c {
+        let k = r.numbered();
+        if k.number as u32 == refusal {
+            return k.place;
+        }
     }
     0
 }

@@ -1,51 +1,51 @@
-use mathlib.Core.Path.{sym, ap, _∙_}
-use Rattle.host.specs.Packing.{placeOf}
+use mathlib.Core.Path.{ap, sym, _∙_}
+use native.Mathlib.Omega.{arith}
+use Rattle.host.proofs.Places.{settled, only-places, of-its-number, of-another, of-none}
 use borrow.Author.Needs.{needs}
-use borrow.Author.Tests.{ne-eqb}
 use Rattle.host.proofs.frame_decode_place.Statement.{statement}
 use Rattle.host.proofs.frame_decode_place.Tie as tie
 
-check-requires : tie.Need-check-requires
-check-requires c κs = search needs
+mul-t13 : tie.Need-mul-t13
+mul-t13 c = search needs
 
-enum-known-j : tie.Need-enum-known-j
-enum-known-j c = search needs
+slice-aggregate-accept : tie.Need-slice-aggregate-accept
+slice-aggregate-accept c = search needs
 
-place-of-requires : tie.Need-place-of-requires
-place-of-requires c κs = search needs
+accept-requires : tie.Need-accept-requires
+accept-requires c κs = search needs
+
+enum-known-c : tie.Need-enum-known-c
+enum-known-c c = search needs
+
+numbered-requires : tie.Need-numbered-requires
+numbered-requires c κs = search needs
+
+cast-if1 : tie.Need-cast-if1
+cast-if1 c = search needs
 
 returns : tie.Need-returns
-returns c = c .place-of .ensures ∙ rw (sym (c .before .before .before .before .check .ensures) ∙ c .before .before .j .given .1)
+returns c = ap (λ k. k .place) (c .before .before .numbered .ensures) ∙ of-its-number _ (c .before .before .before .before .before .before .before .accept .ensures) (only-places _ _ settled (omega arith)) (c .before .before .before .before .c .given .1) (sym (ap (λ k. k .number) (c .before .before .numbered .ensures)) ∙ c .if1 .taken)
 
 enum-told : tie.Need-enum-told
 enum-told c = search needs
 
 returns-2 : tie.Need-returns-2
-returns-2 c = rw (sym (c .before .before .before .check .ensures) ∙ c .before .enum-told .given .1, c .if1 .taken)
-
-check-values-requires : tie.Need-check-values-requires
-check-values-requires c κs = search needs
-
-place-of-requires-2 : tie.Need-place-of-requires-2
-place-of-requires-2 c κs = search needs
+returns-2 c = of-another _ (c .before .before .before .before .before .before .before .accept .ensures) (only-places _ _ settled (omega arith)) (c .before .before .before .before .c .given .1) (λ e. c .if1 .left (ap (λ k. k .number) (c .before .before .numbered .ensures) ∙ e))
 
 returns-3 : tie.Need-returns-3
-returns-3 c = c .place-of2 .ensures ∙ ap placeOf (c .before .check-values .ensures) ∙ rw (sym (c .before .before .before .before .before .before .check .ensures) ∙ c .before .before .before .before .enum-told .given .1, c .before .before .if2 .taken)
-
-returns-4 : tie.Need-returns-4
-returns-4 c = rw (sym (c .before .before .before .before .check .ensures) ∙ c .before .before .enum-told .given .1, ne-eqb _ _ (c .before .if1 .left), ne-eqb _ _ (c .if2 .left))
+returns-3 c = of-none _ (c .before .before .before .accept .ensures) (only-places _ _ settled (omega arith)) (c .before .before .before .before .before .before .before .before .args .refusal) (c .enum-told .given .1)
 
 pub frame-decode-place-spec : {M : Type 1} → statement M
 frame-decode-place-spec =
     tie.close
     (tie.spec
-    check-requires
-    enum-known-j
-    place-of-requires
+    mul-t13
+    slice-aggregate-accept
+    accept-requires
+    enum-known-c
+    numbered-requires
+    cast-if1
     returns
     enum-told
     returns-2
-    check-values-requires
-    place-of-requires-2
-    returns-3
-    returns-4)
+    returns-3)
