@@ -5,15 +5,16 @@
 
 #include "frame.h"
 
-enum { VARIABLES = 3, ENTRIES = 4 };
+enum { VARIABLES = 3, CHECKS = 2, ENTRIES = 4 };
 
 /* Check 0 has variables 0 and 1, check 1 has 1 and 2. */
 static const char sheet[] = "variables checks\n3 2\ncheck variable\n0 0\n0 1\n1 1\n1 2\n";
 /* Its fifth line is not after its fourth. */
 static const char turned[] = "variables checks\n3 2\ncheck variable\n0 1\n0 0\n1 1\n1 2\n";
 
-/* Long enough for every sheet, and how much of it the sheet took. */
-static uint8_t starts[16386], columns[65536];
+/* Just long enough for the example; for every sheet it would be 4,000,000 bytes of degrees, 4,000,004 of starts and 16,000,000 of
+   columns. Then how much of it the sheet took. */
+static uint8_t degrees[4 * VARIABLES], starts[4 * (CHECKS + 1)], columns[4 * ENTRIES];
 static size_t variables, starts_length, columns_length;
 
 /* 2.5, -0.5, 1.5 */
@@ -32,24 +33,27 @@ static void read_sheet(const char *given)
     const uint8_t *text = (const uint8_t *)given;
     size_t length = strlen(given);
 
-    uint64_t answer = frame_read_sheet(text, length, starts, sizeof starts, columns, sizeof columns);
+    uint64_t answer = frame_read_sheet(text, length, degrees, sizeof degrees, starts, sizeof starts, columns, sizeof columns);
     if (frame_refusal(answer) != 0) {
-        refused(answer, frame_read_sheet_place(text, length, sizeof starts, sizeof columns));
+        refused(answer, frame_read_sheet_place(text, length, degrees, sizeof degrees, sizeof starts, sizeof columns));
         return;
     }
+    unsigned checks = frame_checks(answer), entries = frame_entries(answer, starts);
     variables = frame_variables(answer);
-    starts_length = 2 * (frame_checks(answer) + 1);
-    columns_length = 2 * frame_entries(answer);
-    printf("variables checks entries\n%u %u %u\n", frame_variables(answer), frame_checks(answer), frame_entries(answer));
+    starts_length = 4 * ((size_t)checks + 1);
+    columns_length = 4 * (size_t)entries;
+    printf("variables checks entries\n%u %u %u\n", frame_variables(answer), checks, entries);
 }
 
 static void write_sheet(void)
 {
-    uint8_t text[42 + 10 * ENTRIES];
+    uint8_t text[48 + 14 * ENTRIES];
 
-    uint64_t answer = frame_write_sheet(variables, starts, starts_length, columns, columns_length, text, sizeof text);
+    uint64_t answer = frame_write_sheet(variables, starts, starts_length, columns, columns_length, degrees, sizeof degrees, text,
+                                        sizeof text);
     if (frame_refusal(answer) != 0) {
-        refused(answer, frame_write_sheet_place(variables, starts, starts_length, columns, columns_length, sizeof text));
+        refused(answer, frame_write_sheet_place(variables, starts, starts_length, columns, columns_length, degrees, sizeof degrees,
+                                                sizeof text));
         return;
     }
     size_t length = frame_text_length(answer);
@@ -62,11 +66,11 @@ static void decode(const uint8_t *values, uint32_t limit)
     uint8_t levels[VARIABLES], variable_messages[ENTRIES], check_messages[ENTRIES], sums[4 * VARIABLES], bits[VARIABLES];
 
     uint64_t answer = frame_decode(variables, starts, starts_length, columns, columns_length, values, 4 * VARIABLES, FRAME_PLAIN, 1.0f,
-                                   0.0f, 3, 3, 1, 1, 0, limit, levels, sizeof levels, variable_messages, sizeof variable_messages,
-                                   check_messages, sizeof check_messages, sums, sizeof sums, bits, sizeof bits);
+                                   0.0f, 3, 3, 1, 1, 0, limit, degrees, sizeof degrees, levels, sizeof levels, variable_messages,
+                                   sizeof variable_messages, check_messages, sizeof check_messages, sums, sizeof sums, bits, sizeof bits);
     if (frame_refusal(answer) != 0) {
         refused(answer, frame_decode_place(variables, starts, starts_length, columns, columns_length, values, 4 * VARIABLES,
-                                           frame_refusal(answer)));
+                                           frame_refusal(answer), degrees, sizeof degrees));
         return;
     }
     printf("verdict iterations unsatisfied\n%s %u %u\nbits\n", frame_is_codeword(answer) ? "codeword" : "stopped",

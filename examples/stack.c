@@ -1,6 +1,6 @@
-/* How much stack each call of the library takes, on a graph of 8,192 variables and checks and 32,768 entries: the call is made on a stack
-   that is painted before it, and what is no longer painted after it is counted. Prints a line for each call, with what frame.h says it
-   takes at most; the status is 1 where a call takes more. */
+/* How much stack each call of the library takes, on a graph of 1,000,000 variables and checks and 4,000,000 entries: the call is made on a
+   stack that is painted before it, and what is no longer painted after it is counted. Prints a line for each call, with what frame.h says
+   it takes at most; the status is 1 where a call takes more. */
 #include "frame.h"
 
 #include <pthread.h>
@@ -8,9 +8,9 @@
 #include <stdlib.h>
 #include <string.h>
 
-enum { VARIABLES = 8192, CHECKS = 8192, ENTRIES = 32768, STACK = 1 << 20, PAINT = 0xa5 };
+enum { VARIABLES = 1000000, CHECKS = 1000000, ENTRIES = 4000000, STACK = 1 << 20, PAINT = 0xa5 };
 
-static uint8_t starts[2 * (CHECKS + 1)], columns[2 * ENTRIES], values[4 * VARIABLES], text[42 + 10 * ENTRIES];
+static uint8_t starts[4 * (CHECKS + 1)], columns[4 * ENTRIES], values[4 * VARIABLES], text[48 + 14 * ENTRIES], degrees[4 * VARIABLES];
 static uint8_t levels[VARIABLES], variable_messages[ENTRIES], check_messages[ENTRIES], sums[4 * VARIABLES], bits[VARIABLES];
 static uint8_t read_starts[sizeof starts], read_columns[sizeof columns];
 static size_t text_length;
@@ -18,19 +18,18 @@ static uint64_t answer;
 
 static int rising(const void *a, const void *b) { return *(const int *)a - *(const int *)b; }
 
-static void put16(uint8_t *list, size_t i, unsigned x) {
-  list[2 * i] = (uint8_t)x;
-  list[2 * i + 1] = (uint8_t)(x >> 8);
+static void put32(uint8_t *list, size_t i, unsigned x) {
+  for (size_t k = 0; k < 4; k++) list[4 * i + k] = (uint8_t)(x >> 8 * k);
 }
 
 /* Check i has the variables i, i + 1, i + 5 and i + 77, counted round the end; the values are +1 and, at every fifth variable, -1. */
 static void make_frame(void) {
   const float one = 1;
-  for (int i = 0; i <= CHECKS; i++) put16(starts, (size_t)i, 4U * (unsigned)i);
+  for (int i = 0; i <= CHECKS; i++) put32(starts, (size_t)i, 4U * (unsigned)i);
   for (int i = 0; i < CHECKS; i++) {
     int row[4] = {i, (i + 1) % VARIABLES, (i + 5) % VARIABLES, (i + 77) % VARIABLES};
     qsort(row, 4, sizeof row[0], rising);
-    for (int k = 0; k < 4; k++) put16(columns, 4 * (size_t)i + (size_t)k, (unsigned)row[k]);
+    for (int k = 0; k < 4; k++) put32(columns, 4 * (size_t)i + (size_t)k, (unsigned)row[k]);
   }
   for (int v = 0; v < VARIABLES; v++) {
     float y = v % 5 == 0 ? -one : one;
@@ -42,33 +41,35 @@ static void *nothing(void *none) { return none; }
 
 static void *decode(void *none) {
   answer = frame_decode(VARIABLES, starts, sizeof starts, columns, sizeof columns, values, sizeof values, FRAME_PLAIN, 2, 0, 4, 4, 1, 1, 0,
-                        3, levels, sizeof levels, variable_messages, sizeof variable_messages, check_messages, sizeof check_messages, sums,
-                        sizeof sums, bits, sizeof bits);
+                        3, degrees, sizeof degrees, levels, sizeof levels, variable_messages, sizeof variable_messages, check_messages,
+                        sizeof check_messages, sums, sizeof sums, bits, sizeof bits);
   return none;
 }
 
 static void *decode_place(void *none) {
-  answer = frame_decode_place(VARIABLES, starts, sizeof starts, columns, sizeof columns, values, sizeof values, 12);
+  answer = frame_decode_place(VARIABLES, starts, sizeof starts, columns, sizeof columns, values, sizeof values, 12, degrees,
+                              sizeof degrees);
   return none;
 }
 
 static void *write_sheet(void *none) {
-  answer = frame_write_sheet(VARIABLES, starts, sizeof starts, columns, sizeof columns, text, sizeof text);
+  answer = frame_write_sheet(VARIABLES, starts, sizeof starts, columns, sizeof columns, degrees, sizeof degrees, text, sizeof text);
   return none;
 }
 
 static void *write_sheet_place(void *none) {
-  answer = frame_write_sheet_place(VARIABLES, starts, sizeof starts, columns, sizeof columns, sizeof text);
+  answer = frame_write_sheet_place(VARIABLES, starts, sizeof starts, columns, sizeof columns, degrees, sizeof degrees, sizeof text);
   return none;
 }
 
 static void *read_sheet(void *none) {
-  answer = frame_read_sheet(text, text_length, read_starts, sizeof read_starts, read_columns, sizeof read_columns);
+  answer = frame_read_sheet(text, text_length, degrees, sizeof degrees, read_starts, sizeof read_starts, read_columns,
+                            sizeof read_columns);
   return none;
 }
 
 static void *read_sheet_place(void *none) {
-  answer = frame_read_sheet_place(text, text_length, sizeof read_starts, sizeof read_columns);
+  answer = frame_read_sheet_place(text, text_length, degrees, sizeof degrees, sizeof read_starts, sizeof read_columns);
   return none;
 }
 

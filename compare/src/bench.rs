@@ -6,19 +6,27 @@ mod times;
 use crate::generate::{Lists, texts};
 use crate::interface::Verdict;
 use crate::random::Random;
-use frames::{Batch, FRAMES, SMALL_FRAMES};
-use times::{DecodeTimes, Named, ROUNDS, SHORTEST, Times};
+use frames::{Batch, FRAMES, SMALL_FRAMES, STRIP_FRAMES};
+use times::{DecodeTimes, Named, SHORTEST, Times};
 
 const SEED: u64 = 36;
 const SIZES: [usize; 3] = [2_046, 4_092, 8_190];
 const SMALL_SIZES: [usize; 2] = [24, 96];
+const STRIP_SIZE: usize = 1_000_000;
+
+const ROUNDS: usize = 101;
+const STRIP_ROUNDS: usize = 11;
 
 pub fn run(decoders: &[Named]) {
     let largest = large_graphs(decoders);
     small_graphs(decoders);
     if let Some(lists) = largest {
-        sheets(decoders, &lists);
+        println!("nanoseconds for a sheet of the largest graph:");
+        sheets(decoders, &lists, ROUNDS);
     }
+    let strip = strip(decoders);
+    println!("nanoseconds for the strip's sheet:");
+    sheets(decoders, &strip, STRIP_ROUNDS);
 }
 
 /// Gives the largest graph.
@@ -30,12 +38,30 @@ fn large_graphs(decoders: &[Named]) -> Option<Lists> {
     let mut largest = None;
     for n in SIZES {
         for batch in frames::noisy(random, n) {
-            let DecodeTimes { iterations, times } = times::decode_once(decoders, &batch);
-            row(&described(&batch, iterations), &times, 2, None);
+            decode_row(decoders, &batch, ROUNDS);
             largest = Some(batch.lists);
         }
     }
     largest
+}
+
+/// Gives the strip's graph.
+fn strip(decoders: &[Named]) -> Lists {
+    println!("decode on a (3,6)-regular strip with {STRIP_FRAMES} frames, one call a measurement;");
+    println!(
+        "nanoseconds per graph entry and iteration, median and least of {STRIP_ROUNDS} rounds:"
+    );
+    heading(&["n", "entries", "frames", "iterations"], decoders, &[]);
+    let random = &mut Random::for_input(SEED, STRIP_SIZE as u64);
+    let [decoded, stopped] = frames::strip(random, STRIP_SIZE);
+    decode_row(decoders, &decoded, STRIP_ROUNDS);
+    decode_row(decoders, &stopped, STRIP_ROUNDS);
+    stopped.lists
+}
+
+fn decode_row(decoders: &[Named], batch: &Batch, rounds: usize) {
+    let DecodeTimes { iterations, times } = times::decode_once(decoders, batch, rounds);
+    row(&described(batch, iterations), &times, 2, None);
 }
 
 /// Each graph has a generator of its own, so that no frame depends on other rows.
@@ -47,19 +73,18 @@ fn small_graphs(decoders: &[Named]) {
     heading(&["n", "entries", "frames", "iterations"], decoders, &["a call"]);
     let chosen = SMALL_SIZES.map(|n| frames::chosen(&mut Random::for_input(SEED, n as u64), n));
     for batch in [frames::example()].iter().chain(chosen.iter().flatten()) {
-        let DecodeTimes { iterations, times } = times::decode_repeatedly(decoders, batch);
+        let DecodeTimes { iterations, times } = times::decode_repeatedly(decoders, batch, ROUNDS);
         let steps = iterations * batch.lists.columns.len() as f64;
         row(&described(batch, iterations), &times, 2, Some(steps));
     }
 }
 
-fn sheets(decoders: &[Named], lists: &Lists) {
+fn sheets(decoders: &[Named], lists: &Lists, rounds: usize) {
     let bytes = texts::sheet(lists).len();
-    println!("nanoseconds for a sheet of the largest graph:");
     heading(&["call", "bytes"], decoders, &[]);
     let calls = [
-        ("read", times::read_times(decoders, lists)),
-        ("write", times::write_times(decoders, lists)),
+        ("read", times::read_times(decoders, lists, rounds)),
+        ("write", times::write_times(decoders, lists, rounds)),
     ];
     for (call, times) in &calls {
         row(&format!("{call:>11}{bytes:>11}"), times, 0, None);

@@ -18,7 +18,7 @@ fn place<T>(result: Result<T, Refusal>) -> usize {
 }
 
 impl Decoder for Fast {
-    fn decode(&self, input: &DecodeInput, lent: &mut Lent) -> Answer<Decoded> {
+    fn decode(&self, input: &DecodeInput, degrees: &mut [u8], lent: &mut Lent) -> Answer<Decoded> {
         let lengths = LentLengths {
             levels: lent.levels.len(),
             variable_messages: lent.variable_messages.len(),
@@ -26,16 +26,22 @@ impl Decoder for Fast {
             sums: lent.sums.len(),
             bits: lent.bits.len(),
         };
-        match decode::prepare(input, &lengths) {
+        match decode::prepare(input, degrees, &lengths) {
             Ok(frame) => Answer::Accepted(decode::run(&frame, lent)),
             Err(refusal) => Answer::Refused(refusal.number),
         }
     }
 
-    fn decode_place(&self, graph: &GraphBytes, values: &[u8], number: u8) -> usize {
+    fn decode_place(
+        &self,
+        graph: &GraphBytes,
+        values: &[u8],
+        number: u8,
+        degrees: &mut [u8],
+    ) -> usize {
         let (starts, columns) = graph::lists(graph);
         let values = values.as_chunks().0;
-        match graph::check(graph.n, starts, columns) {
+        match graph::check(graph.n, starts, columns, degrees) {
             Err(refusal) => refusal.place,
             Ok(_) if number == 13 => values.len(),
             Ok(_) if number == 12 => decode::first_bad_value(values).unwrap_or(0),
@@ -46,37 +52,45 @@ impl Decoder for Fast {
     fn read_sheet(
         &self,
         text: &[u8],
+        degrees: &mut [u8],
         starts: &mut [u8],
         columns: &mut [u8],
     ) -> Answer<SheetCounts> {
-        match sheet::read(text, starts.len(), columns.len()) {
+        match sheet::read(text, degrees, starts.len(), columns.len()) {
             Ok(read) => {
                 starts[..NUMBER_BYTES * read.starts.len()]
                     .copy_from_slice(read.starts.as_flattened());
                 columns[..NUMBER_BYTES * read.columns.len()]
                     .copy_from_slice(read.columns.as_flattened());
-                Answer::Accepted(SheetCounts {
-                    n: read.n,
-                    m: read.starts.len() - 1,
-                    entries: read.columns.len(),
-                })
+                Answer::Accepted(SheetCounts { n: read.n, m: read.starts.len() - 1 })
             }
             Err(refusal) => Answer::Refused(refusal.number),
         }
     }
 
-    fn read_sheet_place(&self, text: &[u8], starts: usize, columns: usize) -> usize {
-        place(sheet::read(text, starts, columns))
+    fn read_sheet_place(
+        &self,
+        text: &[u8],
+        degrees: &mut [u8],
+        starts: usize,
+        columns: usize,
+    ) -> usize {
+        place(sheet::read(text, degrees, starts, columns))
     }
 
-    fn write_sheet(&self, graph: &GraphBytes, text: &mut [u8]) -> Answer<usize> {
-        match sheet::measure(graph, text.len()) {
+    fn write_sheet(
+        &self,
+        graph: &GraphBytes,
+        degrees: &mut [u8],
+        text: &mut [u8],
+    ) -> Answer<usize> {
+        match sheet::measure(graph, degrees, text.len()) {
             Ok(_) => Answer::Accepted(sheet::write(graph, text)),
             Err(refusal) => Answer::Refused(refusal.number),
         }
     }
 
-    fn write_sheet_place(&self, graph: &GraphBytes, text: usize) -> usize {
-        place(sheet::measure(graph, text))
+    fn write_sheet_place(&self, graph: &GraphBytes, degrees: &mut [u8], text: usize) -> usize {
+        place(sheet::measure(graph, degrees, text))
     }
 }

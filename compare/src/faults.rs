@@ -1,13 +1,10 @@
 //! Decoders with one fault each. The harness must find every one, and none where there is
 //! none.
 
+mod calls;
 mod found;
 
-use crate::harness::check::level_bytes;
-use crate::interface::{
-    Answer, DecodeInput, Decoded, Decoder, GraphBytes, LARGEST_NUMBER, Lent, LentLengths,
-    SheetCounts, Verdict, as_number, f32_list, i32_bytes, number_bytes, numbers,
-};
+use crate::interface::{DecodeInput, LentLengths, Verdict, as_number, f32_list};
 use crate::paper::graph::odd_checks;
 use crate::paper::rules::{self, Offsets};
 use crate::paper::run::{Checked, check_settings};
@@ -43,6 +40,18 @@ enum Fault {
     LastLineFeedOptional,
     WideNumbersWrapped,
     TextLengthOneMore,
+    // Whole-strip codes.
+    DegreesAfterFive,
+    DegreesBeforeFour,
+    DegreesChangedByFour,
+    DegreesChangedBySix,
+    DegreesLeftAfterFive,
+    DegreesLeftByLaterRefusals,
+    DegreesCountedPastN,
+    DegreesLeftByCompanion,
+    StartsOf16Bits,
+    ColumnsOf16Bits,
+    OldLimitInReader,
 }
 
 struct Faulty(Fault);
@@ -56,9 +65,14 @@ impl Faulty {
         self.0 == fault
     }
 
-    fn outcome(&self, input: &DecodeInput, lent: &LentLengths) -> Result<Outcome, Refusal> {
-        let (starts, columns) = (numbers(input.graph.starts), numbers(input.graph.columns));
-        let graph = Graph { n: input.graph.n, starts: &starts, columns: &columns };
+    fn outcome(
+        &self,
+        input: &DecodeInput,
+        degrees: &mut [u32],
+        lent: &LentLengths,
+    ) -> Result<Outcome, Refusal> {
+        let lists = self.lists(&input.graph);
+        let graph = lists.graph();
         let values = f32_list(input.values);
         let mut settings = input.settings;
         if self.has(Fault::RefusedThroughout) {
@@ -67,11 +81,12 @@ impl Faulty {
         if self.has(Fault::VarianceRead) && settings.kind == 0 && settings.variance.is_nan() {
             settings.gain = settings.variance;
         }
-        let refusal = match paper::decode(Limits::LENT, &graph, &values, &settings, lent) {
+        let decoded = paper::decode(Limits::LENT, &graph, &values, &settings, degrees, lent);
+        let refusal = match decoded {
             Ok(_) => return Ok(self.run(&graph, &values, &check_settings(&settings)?, input)),
             Err(refusal) => refusal,
         };
-        let needed = LentLengths::needed(graph.n, columns.len());
+        let needed = LentLengths::needed(graph.n, graph.entries());
         match refusal.number {
             12 if self.has(Fault::BuffersBeforeValues) && !lent.covers(&needed) => {
                 Err(Refusal { number: 6, place: 0 })
@@ -219,9 +234,7 @@ impl Faulty {
         }
         if self.has(Fault::WideNumbersWrapped) {
             let wrapped = |word: &str| match word.parse::<u64>() {
-                Ok(number) if number > LARGEST_NUMBER.into() => {
-                    as_number(number as usize).to_string()
-                }
+                Ok(number) if number > u32::MAX.into() => as_number(number as usize).to_string(),
                 _ => word.to_string(),
             };
             let text_words = String::from_utf8_lossy(&text).into_owned();
@@ -229,100 +242,5 @@ impl Faulty {
             text = text_words.split('\n').map(line).collect::<Vec<_>>().join("\n").into_bytes();
         }
         text
-    }
-}
-
-impl Decoder for Faulty {
-    fn decode(&self, input: &DecodeInput, lent: &mut Lent) -> Answer<Decoded> {
-        let buffers: [&mut [u8]; 5] = [
-            &mut *lent.levels,
-            &mut *lent.variable_messages,
-            &mut *lent.check_messages,
-            &mut *lent.sums,
-            &mut *lent.bits,
-        ];
-        let lengths = LentLengths::from_array(buffers.each_ref().map(|buffer| buffer.len()));
-        let outcome = match self.outcome(input, &lengths) {
-            Ok(outcome) => outcome,
-            Err(refusal) => {
-                if self.has(Fault::WrittenWhenRefused) && refusal.number == 12 {
-                    lent.levels.fill(0);
-                }
-                return Answer::Refused(refusal.number);
-            }
-        };
-        let lists = [
-            level_bytes(&outcome.levels),
-            level_bytes(&outcome.variable_messages),
-            level_bytes(&outcome.check_messages),
-            i32_bytes(&outcome.sums),
-            outcome.bits,
-        ];
-        for (buffer, list) in buffers.into_iter().zip(lists) {
-            buffer[..list.len()].copy_from_slice(&list);
-            if let (true, Some(past)) =
-                (self.has(Fault::BytePastTheLength), buffer.get_mut(list.len()))
-            {
-                *past = 0;
-            }
-        }
-        let Outcome { verdict, iterations, unsatisfied, .. } = outcome;
-        Answer::Accepted(Decoded { verdict, iterations, unsatisfied })
-    }
-
-    fn decode_place(&self, graph: &GraphBytes, values: &[u8], number: u8) -> usize {
-        let (starts, columns) = (numbers(graph.starts), numbers(graph.columns));
-        let graph = Graph { n: graph.n, starts: &starts, columns: &columns };
-        let values = f32_list(values);
-        match paper::check_graph(Limits::LENT, &graph) {
-            Err(refusal) => refusal.place,
-            Ok(()) if number == 13 => values.len(),
-            Ok(()) if number == 12 && self.has(Fault::LastBadValue) => last_bad_value(&values),
-            Ok(()) if number == 12 => values.iter().position(|v| !v.is_finite()).unwrap_or(0),
-            Ok(()) => 0,
-        }
-    }
-
-    fn read_sheet(
-        &self,
-        text: &[u8],
-        starts: &mut [u8],
-        columns: &mut [u8],
-    ) -> Answer<SheetCounts> {
-        match paper::read_sheet(Limits::LENT, &self.careless(text), starts.len(), columns.len()) {
-            Ok(sheet) => {
-                for (lent, list) in [(starts, &sheet.starts), (columns, &sheet.columns)] {
-                    let bytes = number_bytes(list);
-                    lent[..bytes.len()].copy_from_slice(&bytes);
-                }
-                let (m, entries) = (sheet.starts.len() - 1, sheet.columns.len());
-                Answer::Accepted(SheetCounts { n: sheet.n, m, entries })
-            }
-            Err(refusal) => Answer::Refused(refusal.number),
-        }
-    }
-
-    fn read_sheet_place(&self, text: &[u8], starts: usize, columns: usize) -> usize {
-        let read = paper::read_sheet(Limits::LENT, &self.careless(text), starts, columns);
-        read.err().map_or(0, |refusal| refusal.place)
-    }
-
-    fn write_sheet(&self, graph: &GraphBytes, text: &mut [u8]) -> Answer<usize> {
-        let (starts, columns) = (numbers(graph.starts), numbers(graph.columns));
-        let lists = Graph { n: graph.n, starts: &starts, columns: &columns };
-        match paper::write_sheet(Limits::LENT, &lists, text.len()) {
-            Ok(written) => {
-                text[..written.len()].copy_from_slice(&written);
-                let more = usize::from(self.has(Fault::TextLengthOneMore) && graph.n == 7);
-                Answer::Accepted(written.len() + more)
-            }
-            Err(refusal) => Answer::Refused(refusal.number),
-        }
-    }
-
-    fn write_sheet_place(&self, graph: &GraphBytes, text: usize) -> usize {
-        let (starts, columns) = (numbers(graph.starts), numbers(graph.columns));
-        let lists = Graph { n: graph.n, starts: &starts, columns: &columns };
-        paper::write_sheet(Limits::LENT, &lists, text).err().map_or(0, |refusal| refusal.place)
     }
 }

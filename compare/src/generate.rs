@@ -5,7 +5,9 @@ pub mod codewords;
 pub mod damage;
 pub mod graphs;
 pub mod limits;
+pub mod orders;
 pub mod settings;
+pub mod strips;
 pub mod texts;
 
 pub use graphs::Lists;

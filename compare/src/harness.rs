@@ -13,31 +13,56 @@ pub use programs::{refusal_number, run_programs};
 pub use series::{Budget, Failure, Series};
 
 use crate::generate::cases::{self, Case};
+use crate::generate::strips::{STRIPS, strip};
 use crate::interface::Decoder;
 use crate::random::Random;
+use std::cell::OnceCell;
 use std::time::Instant;
 
-/// Random inputs that come before those at the limits, so that a plain fault shows on a
-/// small one.
+/// Random inputs that come before those at the smaller limits, so that a plain fault shows
+/// on a small one.
 const INPUTS_BEFORE_LIMITS: u64 = 1_000;
 
-/// All inputs of a seed, in order and without end.
-pub fn inputs(seed: u64) -> impl Iterator<Item = Case> {
-    let random = move |input| cases::any(&mut Random::for_input(seed, input));
-    let at_limits = std::iter::once_with(move || cases::at_limits(&mut Random::new(seed)));
-    let first = (0..INPUTS_BEFORE_LIMITS).map(random);
-    first.chain(at_limits.flatten()).chain((INPUTS_BEFORE_LIMITS..).map(random))
+/// Inputs that come before the strips.
+const INPUTS_BEFORE_STRIPS: u64 = 6_000;
+
+/// All inputs of a seed, by number and without end.
+struct Inputs {
+    seed: u64,
+    at_limits: OnceCell<Vec<Case>>,
+}
+
+impl Inputs {
+    fn of(seed: u64) -> Inputs {
+        Inputs { seed, at_limits: OnceCell::new() }
+    }
+
+    fn input(&self, number: u64) -> Case {
+        self.at_limits(number)
+            .or_else(|| self.strip(number))
+            .unwrap_or_else(|| cases::any(&mut Random::for_input(self.seed, number)))
+    }
+
+    fn at_limits(&self, number: u64) -> Option<Case> {
+        let index = number.checked_sub(INPUTS_BEFORE_LIMITS)? as usize;
+        let made = || cases::at_small_limits(&mut Random::new(self.seed));
+        self.at_limits.get_or_init(made).get(index).cloned()
+    }
+
+    fn strip(&self, number: u64) -> Option<Case> {
+        let index = number.checked_sub(INPUTS_BEFORE_STRIPS)? as usize;
+        (index < STRIPS).then(|| strip(self.seed, index))
+    }
 }
 
 pub fn run(decoder: &dyn Decoder, seed: u64, budget: Budget) -> Series {
     let begun = Instant::now();
+    let inputs = Inputs::of(seed);
     let mut series = Series::default();
-    for case in inputs(seed) {
-        if budget.is_spent(series.inputs, begun) {
-            break;
-        }
+    while !budget.is_spent(series.inputs, begun) {
         let input = series.inputs;
         series.inputs += 1;
+        let case = inputs.input(input);
         match check(&case, decoder, input) {
             Ok(seen) => series.note(seen),
             Err(_) => {
@@ -51,7 +76,7 @@ pub fn run(decoder: &dyn Decoder, seed: u64, budget: Budget) -> Series {
 
 /// One input of a seed again.
 pub fn run_one(decoder: &dyn Decoder, seed: u64, input: u64) -> Option<Failure> {
-    let case = inputs(seed).nth(input as usize)?;
+    let case = Inputs::of(seed).input(input);
     check(&case, decoder, input).err()?;
     Some(shrunk(case, decoder, input))
 }
@@ -60,4 +85,36 @@ fn shrunk(case: Case, decoder: &dyn Decoder, input: u64) -> Failure {
     let case = shrink::shrink(case, |candidate| check(candidate, decoder, input).is_err());
     let message = check(&case, decoder, input).err().unwrap_or_default();
     Failure { input, case, message }
+}
+
+#[cfg(test)]
+mod tests {
+    use super::*;
+    use crate::fast::Fast;
+
+    /// The call and the refusal's number of each strip, by its number.
+    #[test]
+    fn strips_are_what_they_are_for() {
+        // At the limits, then n, m and E one past them, then the fullest.
+        let by_counts = [0, 0, 0, 0, 2, 2, 2, 0];
+        let calls = ["decode", "write", "read"];
+        let mut expected: Vec<(&str, u8)> =
+            calls.iter().flat_map(|&call| by_counts.map(|number| (call, number))).collect();
+        // A 4,000,001st entry, CR LF, no last LF, a 4,000,001st entry without LF.
+        expected.extend([2, 1, 1, 2].map(|number| ("read", number)));
+        // Degrees outside their limits; then lists of degrees too short: alone, before 5,
+        // after 4.
+        expected.extend([("decode", 5), ("write", 5), ("read", 5), ("decode", 5)]);
+        expected.extend([("write", 6), ("read", 6), ("decode", 4)]);
+        expected.extend([("decode", 0), ("twin", 0)]);
+        assert_eq!(expected.len(), STRIPS);
+        for (number, expected) in expected.into_iter().enumerate() {
+            let seen = check(&strip(3, number), &Fast, number as u64).unwrap();
+            assert_eq!((seen.call, seen.refusal), expected, "strip {number}");
+            if number == STRIPS - 2 {
+                // The codeword is found, and not at once.
+                assert!(seen.iterations.is_some_and(|count| (2..30).contains(&count)));
+            }
+        }
+    }
 }

@@ -3,11 +3,8 @@
 //! Lists are byte slices, lowest byte first. A list's count is its length divided by the
 //! width, rounded down; bytes past the last whole element are never read or written.
 
-/// The bytes of a start or a column.
-pub const NUMBER_BYTES: usize = 2;
-
-/// The largest number that a start or a column can be.
-pub const LARGEST_NUMBER: u32 = u32::MAX >> (u32::BITS as usize - 8 * NUMBER_BYTES);
+/// The bytes of a start, a column or a degree.
+pub const NUMBER_BYTES: usize = 4;
 
 /// A refusal's number and place.
 #[derive(Clone, Copy, Debug, PartialEq, Eq)]
@@ -30,12 +27,11 @@ pub struct Decoded {
     pub unsatisfied: usize,
 }
 
-/// The numbers that an accepted read of a sheet reports.
+/// The numbers that an accepted read of a sheet reports. E is the last start that was read.
 #[derive(Clone, Copy, Debug, PartialEq, Eq)]
 pub struct SheetCounts {
     pub n: usize,
     pub m: usize,
-    pub entries: usize,
 }
 
 /// What a call answers. `Malformed` is an answer outside the agreed packing.
@@ -74,7 +70,7 @@ pub struct DecodeInput<'a> {
     pub settings: Settings,
 }
 
-/// The five buffers lent to decode.
+/// The five buffers lent to decode beside the list of degrees.
 pub struct Lent<'a> {
     pub levels: &'a mut [u8],
     pub variable_messages: &'a mut [u8],
@@ -120,34 +116,52 @@ impl LentLengths {
     }
 }
 
-/// The host's calls. Every `_place` is the companion that tells where a refusal is,
-/// and 0 where nothing is refused; decode's is asked with the number of the refusal.
+/// The host's calls, each lent a list of degrees. Every `_place` is the companion that tells
+/// where a refusal is, and 0 where nothing is refused; decode's is asked with the number of
+/// the refusal. It leaves the list of degrees as its call does.
 pub trait Decoder {
-    fn decode(&self, input: &DecodeInput, lent: &mut Lent) -> Answer<Decoded>;
-    fn decode_place(&self, graph: &GraphBytes, values: &[u8], number: u8) -> usize;
+    fn decode(&self, input: &DecodeInput, degrees: &mut [u8], lent: &mut Lent) -> Answer<Decoded>;
+    fn decode_place(
+        &self,
+        graph: &GraphBytes,
+        values: &[u8],
+        number: u8,
+        degrees: &mut [u8],
+    ) -> usize;
 
-    fn read_sheet(&self, text: &[u8], starts: &mut [u8], columns: &mut [u8])
-    -> Answer<SheetCounts>;
-    fn read_sheet_place(&self, text: &[u8], starts: usize, columns: usize) -> usize;
+    fn read_sheet(
+        &self,
+        text: &[u8],
+        degrees: &mut [u8],
+        starts: &mut [u8],
+        columns: &mut [u8],
+    ) -> Answer<SheetCounts>;
+    fn read_sheet_place(
+        &self,
+        text: &[u8],
+        degrees: &mut [u8],
+        starts: usize,
+        columns: usize,
+    ) -> usize;
 
-    fn write_sheet(&self, graph: &GraphBytes, text: &mut [u8]) -> Answer<usize>;
-    fn write_sheet_place(&self, graph: &GraphBytes, text: usize) -> usize;
+    fn write_sheet(&self, graph: &GraphBytes, degrees: &mut [u8], text: &mut [u8])
+    -> Answer<usize>;
+    fn write_sheet_place(&self, graph: &GraphBytes, degrees: &mut [u8], text: usize) -> usize;
 }
 
-/// What the width of a start or a column leaves of a count.
+/// What 32 bits leave of a count.
 pub fn as_number(count: usize) -> u32 {
-    count as u32 & LARGEST_NUMBER
+    count as u32
 }
 
-/// The starts or columns in these bytes.
+/// The starts, columns or degrees in these bytes.
 pub fn numbers(bytes: &[u8]) -> Vec<u32> {
-    let number = |b: &[u8]| b.iter().rfold(0, |higher, &byte| higher << 8 | u32::from(byte));
-    bytes.chunks_exact(NUMBER_BYTES).map(number).collect()
+    bytes.as_chunks::<NUMBER_BYTES>().0.iter().map(|&number| u32::from_le_bytes(number)).collect()
 }
 
-/// The bytes of starts or columns.
+/// The bytes of starts, columns or degrees.
 pub fn number_bytes(list: &[u32]) -> Vec<u8> {
-    list.iter().flat_map(|number| number.to_le_bytes().into_iter().take(NUMBER_BYTES)).collect()
+    list.iter().flat_map(|number| number.to_le_bytes()).collect()
 }
 
 pub fn f32_list(bytes: &[u8]) -> Vec<f32> {
@@ -169,14 +183,13 @@ mod tests {
 
     #[test]
     fn numbers_and_their_bytes() {
-        let list = [0, 0x0102, LARGEST_NUMBER];
+        let list = [0, 0x0102_0304, u32::MAX];
         let bytes = number_bytes(&list);
-        assert_eq!(bytes.len(), 3 * NUMBER_BYTES);
-        assert_eq!(bytes[NUMBER_BYTES..][..2], [2, 1]);
+        assert_eq!(bytes, [0, 0, 0, 0, 4, 3, 2, 1, 255, 255, 255, 255]);
         assert_eq!(numbers(&bytes), list);
         // A part of an element counts for nothing.
         assert_eq!(numbers(&bytes[..bytes.len() - 1]), list[..2]);
-        assert_eq!(as_number(usize::MAX), LARGEST_NUMBER);
-        assert_eq!(as_number(LARGEST_NUMBER as usize + 3), 2);
+        assert_eq!(as_number(usize::MAX), u32::MAX);
+        assert_eq!(as_number(u32::MAX as usize + 3), 2);
     }
 }

@@ -23,6 +23,8 @@ unsafe extern "C" {
         phi_a: u32,
         phi_0: u32,
         limit: u32,
+        degrees: *mut u8,
+        degrees_length: usize,
         levels: *mut u8,
         levels_length: usize,
         variable_messages: *mut u8,
@@ -43,10 +45,14 @@ unsafe extern "C" {
         values: *const u8,
         values_length: usize,
         refusal: u32,
+        degrees: *mut u8,
+        degrees_length: usize,
     ) -> usize;
     fn frame_read_sheet(
         text: *const u8,
         text_length: usize,
+        degrees: *mut u8,
+        degrees_length: usize,
         starts: *mut u8,
         starts_length: usize,
         columns: *mut u8,
@@ -55,6 +61,8 @@ unsafe extern "C" {
     fn frame_read_sheet_place(
         text: *const u8,
         text_length: usize,
+        degrees: *mut u8,
+        degrees_length: usize,
         starts_length: usize,
         columns_length: usize,
     ) -> usize;
@@ -64,6 +72,8 @@ unsafe extern "C" {
         starts_length: usize,
         columns: *const u8,
         columns_length: usize,
+        degrees: *mut u8,
+        degrees_length: usize,
         text: *mut u8,
         text_length: usize,
     ) -> u64;
@@ -73,6 +83,8 @@ unsafe extern "C" {
         starts_length: usize,
         columns: *const u8,
         columns_length: usize,
+        degrees: *mut u8,
+        degrees_length: usize,
         text_length: usize,
     ) -> usize;
 }
@@ -80,7 +92,7 @@ unsafe extern "C" {
 pub struct Library;
 
 impl Decoder for Library {
-    fn decode(&self, input: &DecodeInput, lent: &mut Lent) -> Answer<Decoded> {
+    fn decode(&self, input: &DecodeInput, degrees: &mut [u8], lent: &mut Lent) -> Answer<Decoded> {
         let (graph, values, settings) = (&input.graph, input.values, &input.settings);
         // SAFETY: every pointer comes from a slice and stands with that slice's length.
         let answer = unsafe {
@@ -101,6 +113,8 @@ impl Decoder for Library {
                 settings.phi_a,
                 settings.phi_0,
                 settings.limit,
+                degrees.as_mut_ptr(),
+                degrees.len(),
                 lent.levels.as_mut_ptr(),
                 lent.levels.len(),
                 lent.variable_messages.as_mut_ptr(),
@@ -127,7 +141,13 @@ impl Decoder for Library {
         })
     }
 
-    fn decode_place(&self, graph: &GraphBytes, values: &[u8], number: u8) -> usize {
+    fn decode_place(
+        &self,
+        graph: &GraphBytes,
+        values: &[u8],
+        number: u8,
+        degrees: &mut [u8],
+    ) -> usize {
         // SAFETY: as above.
         unsafe {
             frame_decode_place(
@@ -139,6 +159,8 @@ impl Decoder for Library {
                 values.as_ptr(),
                 values.len(),
                 number.into(),
+                degrees.as_mut_ptr(),
+                degrees.len(),
             )
         }
     }
@@ -146,6 +168,7 @@ impl Decoder for Library {
     fn read_sheet(
         &self,
         text: &[u8],
+        degrees: &mut [u8],
         starts: &mut [u8],
         columns: &mut [u8],
     ) -> Answer<SheetCounts> {
@@ -154,6 +177,8 @@ impl Decoder for Library {
             frame_read_sheet(
                 text.as_ptr(),
                 text.len(),
+                degrees.as_mut_ptr(),
+                degrees.len(),
                 starts.as_mut_ptr(),
                 starts.len(),
                 columns.as_mut_ptr(),
@@ -161,20 +186,37 @@ impl Decoder for Library {
             )
         };
         unpacked(answer, |answer| {
-            Some(SheetCounts {
-                n: field(answer, 8, 16),
-                m: field(answer, 24, 16),
-                entries: field(answer, 40, 24),
-            })
+            let counts = SheetCounts { n: field(answer, 8, 24), m: field(answer, 32, 24) };
+            (field(answer, 56, 8) == 0).then_some(counts)
         })
     }
 
-    fn read_sheet_place(&self, text: &[u8], starts: usize, columns: usize) -> usize {
+    fn read_sheet_place(
+        &self,
+        text: &[u8],
+        degrees: &mut [u8],
+        starts: usize,
+        columns: usize,
+    ) -> usize {
         // SAFETY: as above.
-        unsafe { frame_read_sheet_place(text.as_ptr(), text.len(), starts, columns) }
+        unsafe {
+            frame_read_sheet_place(
+                text.as_ptr(),
+                text.len(),
+                degrees.as_mut_ptr(),
+                degrees.len(),
+                starts,
+                columns,
+            )
+        }
     }
 
-    fn write_sheet(&self, graph: &GraphBytes, text: &mut [u8]) -> Answer<usize> {
+    fn write_sheet(
+        &self,
+        graph: &GraphBytes,
+        degrees: &mut [u8],
+        text: &mut [u8],
+    ) -> Answer<usize> {
         // SAFETY: as above.
         let answer = unsafe {
             frame_write_sheet(
@@ -183,6 +225,8 @@ impl Decoder for Library {
                 graph.starts.len(),
                 graph.columns.as_ptr(),
                 graph.columns.len(),
+                degrees.as_mut_ptr(),
+                degrees.len(),
                 text.as_mut_ptr(),
                 text.len(),
             )
@@ -190,7 +234,7 @@ impl Decoder for Library {
         unpacked(answer, |answer| Some(field(answer, 8, 56)))
     }
 
-    fn write_sheet_place(&self, graph: &GraphBytes, text: usize) -> usize {
+    fn write_sheet_place(&self, graph: &GraphBytes, degrees: &mut [u8], text: usize) -> usize {
         // SAFETY: as above.
         unsafe {
             frame_write_sheet_place(
@@ -199,6 +243,8 @@ impl Decoder for Library {
                 graph.starts.len(),
                 graph.columns.as_ptr(),
                 graph.columns.len(),
+                degrees.as_mut_ptr(),
+                degrees.len(),
                 text,
             )
         }

@@ -2,7 +2,7 @@
 
 mod common;
 
-use common::lines;
+use common::{degrees_of, lines};
 use compare::generate::cases::programs_at_limits;
 use compare::generate::codewords::Codewords;
 use compare::generate::{graphs, limits};
@@ -17,9 +17,10 @@ fn graphs_are_admitted_and_come_back_from_their_sheets() {
     let random = &mut Random::new(11);
     for _ in 0..2_000 {
         let lists = graphs::any(random);
-        assert_eq!(check_graph(Limits::LENT, &lists.graph()), Ok(()));
-        let text = write_sheet(Limits::LENT, &lists.graph(), usize::MAX).unwrap();
-        let sheet = read_sheet(Limits::LENT, &text, usize::MAX, usize::MAX).unwrap();
+        let degrees = &mut degrees_of(lists.n);
+        assert_eq!(check_graph(Limits::LENT, &lists.graph(), degrees), Ok(()));
+        let text = write_sheet(Limits::LENT, &lists.graph(), degrees, usize::MAX).unwrap();
+        let sheet = read_sheet(Limits::LENT, &text, degrees, usize::MAX, usize::MAX).unwrap();
         assert_eq!((sheet.n, sheet.starts, sheet.columns), (lists.n, lists.starts, lists.columns));
     }
 }
@@ -29,39 +30,70 @@ fn codewords_have_no_odd_check_and_their_neighbours_have() {
     let random = &mut Random::new(12);
     for _ in 0..500 {
         let lists = graphs::any(random);
+        let degrees = &mut degrees_of(lists.n);
         let mut word = Codewords::new(&lists).random(random);
-        assert_eq!(count_odd_checks(Limits::LENT, &lists.graph(), &word), Ok(0));
+        assert_eq!(count_odd_checks(Limits::LENT, &lists.graph(), &word, degrees), Ok(0));
         // Every variable stands in a check.
         word[random.below(lists.n)] ^= 1;
-        assert_ne!(count_odd_checks(Limits::LENT, &lists.graph(), &word), Ok(0));
+        assert_ne!(count_odd_checks(Limits::LENT, &lists.graph(), &word, degrees), Ok(0));
+    }
+}
+
+#[test]
+fn strips_come_with_a_codeword() {
+    for n in [12, 120, 10_000] {
+        let (lists, mut word) = graphs::regular_with_codeword(&mut Random::new(15), n, 3, 6);
+        let degrees = &mut degrees_of(n);
+        assert_eq!(count_odd_checks(Limits::LENT, &lists.graph(), &word, degrees), Ok(0));
+        assert_eq!((lists.starts.len() - 1, lists.columns.len()), (n / 2, 3 * n));
+        assert_eq!(*degrees, vec![3; n]);
+        assert!(word.contains(&0) && word.contains(&1));
+        word[n - 1] ^= 1;
+        assert_eq!(count_odd_checks(Limits::LENT, &lists.graph(), &word, degrees), Ok(3));
     }
 }
 
 #[test]
 fn limits_are_met_and_passed() {
-    let answers = |limits: Limits| -> Vec<Option<(u8, usize)>> {
-        let graphs = limits::graphs(limits, &mut Random::new(13));
+    // What a graph at some limits gets from a call with the same or others.
+    let answers = |made: Limits, judged: Limits| -> Vec<Option<(u8, usize)>> {
         let answer = |r: Refusal| (r.number, r.place);
-        graphs.iter().map(|lists| check_graph(limits, &lists.graph()).err().map(answer)).collect()
+        limits::graphs(made, &mut Random::new(13))
+            .map(|lists| check_graph(judged, &lists.graph(), &mut degrees_of(lists.n)))
+            .map(|checked| checked.err().map(answer))
+            .collect()
     };
-    let admitted = [None; 7];
-    // Variable 0 of degree 33 after 33 checks, a check of degree 65; then n of 1 and
-    // 8,193, m of 8,193 and 65,537, E of 65,538 and 32,769.
-    let passed = [(5, 33), (5, 0), (2, 0), (2, 0), (2, 0), (2, 0), (2, 0), (2, 0)].map(Some);
-    let expected = [&admitted[..], &passed, &[None]].concat();
-    assert_eq!(answers(Limits::LENT), expected);
+    // Three that are admitted; variable 0 of degree 33 after 33 checks; a check of degree 65
+    // and one of degree 1; variable 2 of degree 0 after 1 check; n of 1.
+    let small = [None, None, None, Some((5, 33)), Some((5, 0)), Some((5, 1)), Some((5, 3))];
+    let small = [&small[..], &[Some((2, 0))]].concat();
+    // m of 65,537 and E of 65,538: past the smaller limits, else a check without entries and
+    // starts that do not end at E.
+    let (past_16_bits, wide) = ([Some((2, 0)); 2], [Some((5, 1)), Some((7, 1))]);
+    // Four that are admitted; n, m and E one past; the fullest.
+    let (met, passed) = ([None; 4], [Some((2, 0)); 3]);
+    let by_counts = [&met[..], &passed, &[None]].concat();
+
+    let program = [&small[..], &past_16_bits, &by_counts].concat();
+    assert_eq!(answers(Limits::PROGRAM, Limits::PROGRAM), program);
     // Other limits, one past which no degree of a check divides.
     let others = Limits { variables: 10_000, checks: 10_000, entries: 40_000 };
-    assert_eq!(answers(others), expected);
+    assert_eq!(answers(others, others), program);
+    let lent = [&small[..], &wide, &by_counts].concat();
+    assert_eq!(answers(Limits::LENT, Limits::LENT), lent);
+    // Everything at the program's counts or one past them is admitted in lent graphs.
+    let at_programs_limits = [&small[..], &wide, &[None; 8]].concat();
+    assert_eq!(answers(Limits::PROGRAM, Limits::LENT), at_programs_limits);
 }
 
 #[test]
 fn fullest_graphs_are_full() {
-    for limits in [Limits::LENT, Limits { variables: 1_000, checks: 500, entries: 3_000 }] {
+    let others = Limits { variables: 1_000, checks: 500, entries: 3_000 };
+    for limits in [Limits::LENT, Limits::PROGRAM, others] {
         let lists = graphs::fullest(limits, &mut Random::new(14));
         let counts = (lists.n, lists.starts.len() - 1, lists.columns.len());
         assert_eq!(counts, (limits.variables, limits.checks, limits.entries));
-        assert_eq!(check_graph(limits, &lists.graph()), Ok(()));
+        assert_eq!(check_graph(limits, &lists.graph(), &mut degrees_of(lists.n)), Ok(()));
     }
 }
 
@@ -82,8 +114,27 @@ fn programs_of_65_536_bytes_and_one_more() {
     // A limit of 99,999 is of form; one more byte is too large. The full sheet leaves the
     // run text to judge; one more byte is too large. A long last line without LF is of
     // another form, line 6 after two entries; one more byte is too large.
-    let expected = [(9, 0), (14, 0), (14, 1), (2, 0), (1, 6), (2, 0)];
-    assert_eq!(printed, expected.map(|(number, place)| refusal(number, place)));
+    let at_sizes = [(9, 0), (14, 0), (14, 1), (2, 0), (1, 6), (2, 0)];
+    // n of 8,192: variable 2 has no check after 1 check; m of 8,192: check 1 has no entry.
+    // One more of either, and 1,000,000, are past the program's limits.
+    let at_counts = [(5, 3), (2, 2), (5, 1), (2, 2), (2, 2), (2, 2)];
+    let expected = at_sizes.into_iter().chain(at_counts);
+    let expected: Vec<Vec<u8>> = expected.map(|(number, place)| refusal(number, place)).collect();
+    assert_eq!(printed, expected);
+}
+
+/// A program with the limits of lent graphs would not pass.
+#[test]
+fn programs_tell_the_limits_apart() {
+    let answer = |limits, code: &[u8]| {
+        read_sheet(limits, code, &mut degrees_of(1_000_000), usize::MAX, usize::MAX).err()
+    };
+    let cases = programs_at_limits();
+    let differs = cases
+        .iter()
+        .filter_map(|case| case.code.as_ref())
+        .filter(|code| answer(Limits::PROGRAM, code) != answer(Limits::LENT, code));
+    assert_eq!(differs.count(), 4);
 }
 
 fn compare(arguments: &[&str]) -> (bool, String) {

@@ -7,7 +7,7 @@ use compare::interface::{LentLengths, Settings};
 use compare::paper::{Graph, Limits, check_graph, count_odd_checks, decode, row_of_check};
 
 fn checked(n: usize, starts: &[u32], columns: &[u32]) -> Result<(), compare::paper::Refusal> {
-    check_graph(Limits::LENT, &Graph { n, starts, columns })
+    check_graph(Limits::LENT, &Graph { n, starts, columns }, &mut degrees_of(n))
 }
 
 /// Starts of `m` checks that have `degree` entries each.
@@ -19,18 +19,35 @@ fn even_starts(m: u32, degree: u32) -> Vec<u32> {
 fn counts_outside_limits() {
     let good: (&[u32], &[u32]) = (&[0, 2], &[0, 1]);
     assert_eq!(checked(2, good.0, good.1), Ok(()));
-    for n in [0, 1, 8_193, 65_538, usize::MAX] {
+    for n in [0, 1, 1_000_001, (1 << 32) + 2, usize::MAX] {
         assert_eq!(checked(n, good.0, good.1), refused(2, 0));
     }
     assert_eq!(checked(2, &[], &[]), refused(2, 0));
     assert_eq!(checked(2, &[0], &[]), refused(2, 0));
-    assert_eq!(checked(2, &vec![1; 8_194], good.1), refused(2, 0));
-    assert_eq!(checked(2, good.0, &vec![9; 32_769]), refused(2, 0));
-    // At the limits the next refusals are looked for: 7 for the starts, 5 for the degree.
-    assert_eq!(checked(8_192, &[1, 2], good.1), refused(7, 0));
-    assert_eq!(checked(2, &vec![1; 8_193], good.1), refused(7, 0));
-    assert_eq!(checked(8_192, &[0, 32_768], &vec![9; 32_768]), refused(4, 1));
+    assert_eq!(checked(2, &vec![1; 1_000_002], good.1), refused(2, 0));
+    assert_eq!(checked(2, good.0, &vec![9; 4_000_001]), refused(2, 0));
+    // At the limits the next refusals are looked for: 7 for the starts, 4 for the columns, 5
+    // for the degree.
+    assert_eq!(checked(1_000_000, &[1, 2], good.1), refused(7, 0));
+    assert_eq!(checked(2, &vec![1; 1_000_001], good.1), refused(7, 0));
+    assert_eq!(checked(1_000_000, &[0, 4_000_000], &vec![9; 4_000_000]), refused(4, 1));
+    assert_eq!(checked(1_000_000, good.0, good.1), refused(5, 1 + 2));
     assert_eq!(checked(2, &[0, 0], &[]), refused(5, 0));
+}
+
+#[test]
+fn counts_outside_the_programs_limits() {
+    let answer = |n, starts: &[u32], columns: &[u32]| {
+        check_graph(Limits::PROGRAM, &Graph { n, starts, columns }, &mut degrees_of(n))
+    };
+    let good: (&[u32], &[u32]) = (&[0, 2], &[0, 1]);
+    assert_eq!(answer(2, good.0, good.1), Ok(()));
+    assert_eq!(answer(8_193, good.0, good.1), refused(2, 0));
+    assert_eq!(answer(2, &vec![1; 8_194], good.1), refused(2, 0));
+    assert_eq!(answer(2, good.0, &vec![9; 32_769]), refused(2, 0));
+    assert_eq!(answer(8_192, &[1, 2], good.1), refused(7, 0));
+    assert_eq!(answer(2, &vec![1; 8_193], good.1), refused(7, 0));
+    assert_eq!(answer(8_192, &[0, 32_768], &vec![9; 32_768]), refused(4, 1));
 }
 
 #[test]
@@ -40,11 +57,12 @@ fn limits_of_the_call() {
     let answers = |variables, checks, entries| {
         let limits = Limits { variables, checks, entries };
         let (settings, lent) = (example_settings(), LentLengths::needed(3, 4));
-        let decoded = decode(limits, &graph, &EXAMPLE_VALUES, &settings, &lent);
+        let degrees = &mut [0; 3];
+        let decoded = decode(limits, &graph, &EXAMPLE_VALUES, &settings, degrees, &lent);
         [
-            check_graph(limits, &graph),
-            row_of_check(limits, &graph, 1).map(|_| ()),
-            count_odd_checks(limits, &graph, &[0; 3]).map(|_| ()),
+            check_graph(limits, &graph, degrees),
+            row_of_check(limits, &graph, 1, degrees).map(|_| ()),
+            count_odd_checks(limits, &graph, &[0; 3], degrees).map(|_| ()),
             decoded.map(|_| ()),
         ]
     };
@@ -72,7 +90,11 @@ fn starts_out_of_order() {
 fn columns_out_of_range_or_order() {
     let starts: &[u32] = &[0, 2, 4];
     assert_eq!(checked(3, starts, &[0, 1, 1, 3]), refused(3, 3));
-    assert_eq!(checked(3, starts, &[0, 65_535, 1, 3]), refused(3, 1));
+    assert_eq!(checked(3, starts, &[0, u32::MAX, 1, 3]), refused(3, 1));
+    // As 0 and 1 to whoever looks at 16 bits, and as a start of 2.
+    assert_eq!(checked(3, starts, &[65_536, 1, 1, 2]), refused(3, 0));
+    assert_eq!(checked(3, starts, &[0, 1, 1 << 24 | 1, 2]), refused(3, 2));
+    assert_eq!(checked(3, &[0, 65_538, 4], &[0, 1, 1, 2]), refused(7, 2));
     assert_eq!(checked(3, starts, &[0, 1, 2, 1]), refused(4, 3));
     assert_eq!(checked(3, starts, &[1, 1, 1, 2]), refused(4, 1));
     // A row's first column has no predecessor in the row.
@@ -102,33 +124,35 @@ fn degrees_outside_limits() {
 #[test]
 fn rows() {
     let graph = example_graph();
-    assert_eq!(row_of_check(Limits::LENT, &graph, 0), Ok(&[0, 1][..]));
-    assert_eq!(row_of_check(Limits::LENT, &graph, 1), Ok(&[1, 2][..]));
-    assert_eq!(row_of_check(Limits::LENT, &graph, 2), refused(3, 2));
-    assert_eq!(row_of_check(Limits::LENT, &graph, usize::MAX), refused(3, usize::MAX));
-    let bad = Graph { n: 2, ..graph };
-    assert_eq!(row_of_check(Limits::LENT, &bad, 9), refused(3, 3));
-    let bad = Graph { starts: &[], ..graph };
-    assert_eq!(row_of_check(Limits::LENT, &bad, 9), refused(2, 0));
+    let row = |graph: &Graph<'static>, check| {
+        row_of_check(Limits::LENT, graph, check, &mut degrees_of(graph.n))
+    };
+    assert_eq!(row(&graph, 0), Ok(&[0, 1][..]));
+    assert_eq!(row(&graph, 1), Ok(&[1, 2][..]));
+    assert_eq!(row(&graph, 2), refused(3, 2));
+    assert_eq!(row(&graph, usize::MAX), refused(3, usize::MAX));
+    assert_eq!(row(&Graph { n: 2, ..graph }, 9), refused(3, 3));
+    assert_eq!(row(&Graph { starts: &[], ..graph }, 9), refused(2, 0));
     // The row is a part of the caller's list, not a copy.
-    let row = row_of_check(Limits::LENT, &graph, 1).unwrap();
-    assert_eq!(row.as_ptr(), graph.columns[2..].as_ptr());
+    assert_eq!(row(&graph, 1).unwrap().as_ptr(), graph.columns[2..].as_ptr());
 }
 
 #[test]
 fn odd_checks() {
     let graph = example_graph();
-    assert_eq!(count_odd_checks(Limits::LENT, &graph, &[0, 0, 0]), Ok(0));
-    assert_eq!(count_odd_checks(Limits::LENT, &graph, &[1, 1, 1]), Ok(0));
-    assert_eq!(count_odd_checks(Limits::LENT, &graph, &[1, 0, 0]), Ok(1));
-    assert_eq!(count_odd_checks(Limits::LENT, &graph, &[0, 1, 0]), Ok(2));
-    assert_eq!(count_odd_checks(Limits::LENT, &graph, &[0, 1]), refused(13, 0));
-    assert_eq!(count_odd_checks(Limits::LENT, &graph, &[0, 1, 0, 0]), refused(13, 0));
-    assert_eq!(count_odd_checks(Limits::LENT, &graph, &[0, 2, 3]), refused(15, 1));
+    let odd = |graph: &Graph, bits: &[u8]| {
+        count_odd_checks(Limits::LENT, graph, bits, &mut degrees_of(graph.n))
+    };
+    assert_eq!(odd(&graph, &[0, 0, 0]), Ok(0));
+    assert_eq!(odd(&graph, &[1, 1, 1]), Ok(0));
+    assert_eq!(odd(&graph, &[1, 0, 0]), Ok(1));
+    assert_eq!(odd(&graph, &[0, 1, 0]), Ok(2));
+    assert_eq!(odd(&graph, &[0, 1]), refused(13, 0));
+    assert_eq!(odd(&graph, &[0, 1, 0, 0]), refused(13, 0));
+    assert_eq!(odd(&graph, &[0, 2, 3]), refused(15, 1));
     // 13 before 15, the graph's before both.
-    assert_eq!(count_odd_checks(Limits::LENT, &graph, &[9, 9]), refused(13, 0));
-    let bad = Graph { n: 4, ..graph };
-    assert_eq!(count_odd_checks(Limits::LENT, &bad, &[9, 9]), refused(5, 2 + 3));
+    assert_eq!(odd(&graph, &[9, 9]), refused(13, 0));
+    assert_eq!(odd(&Graph { n: 4, ..graph }, &[9, 9]), refused(5, 2 + 3));
 }
 
 fn decode_with(change: impl Fn(&mut Settings)) -> Result<usize, compare::paper::Refusal> {
@@ -234,7 +258,8 @@ fn values_infinite_or_nan() {
         let noise = Settings { kind: 1, gain: f32::MAX, variance: 1.0, ..settings };
         assert_eq!(decode_freely(&example_graph(), &[bad; 3], &noise), refused(11, 0));
         let nothing = LentLengths::needed(0, 0);
-        let short = decode(Limits::LENT, &example_graph(), &[1.0, 1.0, bad], &settings, &nothing);
+        let (graph, values, degrees) = (example_graph(), [1.0, 1.0, bad], &mut [0; 3]);
+        let short = decode(Limits::LENT, &graph, &values, &settings, degrees, &nothing);
         assert_eq!(short, refused(12, 2));
     }
     let largest = decode_freely(&example_graph(), &[f32::MAX; 3], &settings).unwrap();
@@ -246,9 +271,9 @@ fn buffers_too_short() {
     // The example has 3 variables and 4 entries.
     let needed = [3, 4, 4, 12, 3];
     let lent = |lengths| {
-        let lengths = LentLengths::from_array(lengths);
-        decode(Limits::LENT, &example_graph(), &EXAMPLE_VALUES, &example_settings(), &lengths)
-            .map(|_| ())
+        let (lengths, degrees) = (LentLengths::from_array(lengths), &mut [0; 3]);
+        let (graph, settings) = (example_graph(), example_settings());
+        decode(Limits::LENT, &graph, &EXAMPLE_VALUES, &settings, degrees, &lengths).map(|_| ())
     };
     assert_eq!(lent(needed), Ok(()));
     for buffer in 0..needed.len() {

@@ -1,7 +1,7 @@
 //! The graphs and frames that decode is timed on.
 
 use crate::generate::codewords::Codewords;
-use crate::generate::graphs::{Lists, regular};
+use crate::generate::graphs::{Lists, regular, regular_with_codeword};
 use crate::interface::{LentLengths, Settings, Verdict, f32_bytes, f32_list};
 use crate::paper::{self, Limits};
 use crate::random::Random;
@@ -12,6 +12,9 @@ pub const FRAMES: usize = 6;
 /// Frames of a batch on a small graph: more than a processor's branch prediction can learn,
 /// as frames in use are always new.
 pub const SMALL_FRAMES: usize = 2_000;
+
+/// Frames of a batch on a strip.
+pub const STRIP_FRAMES: usize = 3;
 
 const SETTINGS: Settings = Settings {
     kind: 0,
@@ -44,10 +47,26 @@ pub fn noisy(random: &mut Random, n: usize) -> Vec<Batch> {
 /// Frames that have the ending after an iteration or more, on a small (3,6)-regular graph.
 pub fn chosen(random: &mut Random, n: usize) -> Vec<Batch> {
     batches(random, n, SMALL_FRAMES, |lists, ending, frame| {
-        let lent = LentLengths::needed(n, lists.columns.len());
+        let (graph, lent) = (lists.graph(), LentLengths::needed(n, lists.columns.len()));
+        let degrees = &mut vec![0; n];
         let outcome =
-            paper::decode(Limits::LENT, &lists.graph(), &f32_list(frame), &SETTINGS, &lent);
+            paper::decode(Limits::LENT, &graph, &f32_list(frame), &SETTINGS, degrees, &lent);
         outcome.is_ok_and(|outcome| outcome.verdict == ending && outcome.iterations > 0)
+    })
+}
+
+/// Frames as they come on a (3,6)-regular strip, around a codeword that is made with it. Those
+/// that do not decode are stopped early.
+pub fn strip(random: &mut Random, n: usize) -> [Batch; 2] {
+    let (lists, word) = regular_with_codeword(random, n, 3, 6);
+    ENDINGS.map(|(ending, noise)| Batch {
+        lists: lists.clone(),
+        settings: match ending {
+            Verdict::Codeword => SETTINGS,
+            Verdict::Stopped => Settings { limit: 10, ..SETTINGS },
+        },
+        ending,
+        frames: (0..STRIP_FRAMES).map(|_| noisy_frame(random, &word, noise)).collect(),
     })
 }
 
@@ -71,16 +90,18 @@ fn batches(
     let lists = regular(random, n, 3, 6);
     let codewords = Codewords::new(&lists);
     let mut batch = |(ending, noise)| {
-        let drawn = std::iter::repeat_with(|| noisy_frame(random, &codewords, noise));
+        let drawn = std::iter::repeat_with(|| {
+            let word = codewords.random(random);
+            noisy_frame(random, &word, noise)
+        });
         let frames = drawn.filter(|frame| wanted(&lists, ending, frame)).take(count).collect();
         Batch { lists: lists.clone(), settings: SETTINGS, ending, frames }
     };
     ENDINGS.into_iter().map(&mut batch).collect()
 }
 
-/// A random codeword sent as +1 for 0 and -1 for 1, with noise.
-fn noisy_frame(random: &mut Random, codewords: &Codewords, noise: f32) -> Vec<u8> {
-    let word = codewords.random(random);
+/// A codeword sent as +1 for 0 and -1 for 1, with noise.
+fn noisy_frame(random: &mut Random, word: &[u8], noise: f32) -> Vec<u8> {
     let sent = word.iter().map(|&bit| 1.0 - 2.0 * f32::from(bit));
     let values: Vec<f32> = sent.map(|value| value + noise * random.normal()).collect();
     f32_bytes(&values)

@@ -11,8 +11,6 @@ use std::time::{Duration, Instant};
 
 pub type Named<'a> = (&'a str, &'a dyn Decoder);
 
-pub const ROUNDS: usize = 101;
-
 /// What a measurement of repeated calls takes at least.
 pub const SHORTEST: Duration = Duration::from_micros(100);
 
@@ -31,15 +29,15 @@ pub struct DecodeTimes {
 }
 
 /// One call a measurement.
-pub fn decode_once(decoders: &[Named], batch: &Batch) -> DecodeTimes {
-    Prepared::new(batch).times(decoders, 1)
+pub fn decode_once(decoders: &[Named], batch: &Batch, rounds: usize) -> DecodeTimes {
+    Prepared::new(batch).times(decoders, 1, rounds)
 }
 
 /// As many calls a measurement as make it long enough.
-pub fn decode_repeatedly(decoders: &[Named], batch: &Batch) -> DecodeTimes {
+pub fn decode_repeatedly(decoders: &[Named], batch: &Batch, rounds: usize) -> DecodeTimes {
     let mut prepared = Prepared::new(batch);
     let calls = prepared.calls_that_are_long_enough(decoders);
-    prepared.times(decoders, calls)
+    prepared.times(decoders, calls, rounds)
 }
 
 /// A batch with its lists in bytes, and the buffers lent for it.
@@ -47,6 +45,7 @@ struct Prepared<'a> {
     batch: &'a Batch,
     starts: Vec<u8>,
     columns: Vec<u8>,
+    degrees: Vec<u8>,
     lent: [Vec<u8>; 5],
 }
 
@@ -58,6 +57,7 @@ impl Prepared<'_> {
             batch,
             starts: number_bytes(&lists.starts),
             columns: number_bytes(&lists.columns),
+            degrees: vec![0; NUMBER_BYTES * lists.n],
             lent: lengths.map(|length| vec![0; length]),
         }
     }
@@ -66,6 +66,7 @@ impl Prepared<'_> {
     /// that number on. The lent buffers are cleared before the first call; each later one
     /// overwrites what the one before has left.
     fn measure(&mut self, decoder: &dyn Decoder, first: usize, calls: usize) -> (Duration, usize) {
+        self.degrees.fill(0);
         self.lent.iter_mut().for_each(|buffer| buffer.fill(0));
         let Batch { lists, settings, frames, .. } = self.batch;
         let graph = GraphBytes { n: lists.n, starts: &self.starts, columns: &self.columns };
@@ -76,7 +77,7 @@ impl Prepared<'_> {
         for call in first..first + calls {
             let values = &frames[call % frames.len()];
             let input = DecodeInput { graph, values, settings: *settings };
-            let answer = black_box(decoder.decode(black_box(&input), &mut lent));
+            let answer = black_box(decoder.decode(black_box(&input), &mut self.degrees, &mut lent));
             let Answer::Accepted(decoded) = answer else {
                 panic!("a frame of the benchmark is answered {answer:?}");
             };
@@ -98,40 +99,45 @@ impl Prepared<'_> {
     }
 
     /// Each round goes on with the frames where the one before has stopped.
-    fn times(&mut self, decoders: &[Named], calls: usize) -> DecodeTimes {
+    fn times(&mut self, decoders: &[Named], calls: usize, rounds: usize) -> DecodeTimes {
         let entries = self.batch.lists.columns.len();
         let mut total = 0;
-        let times = in_turns(decoders, |decoder, round| {
+        let times = in_turns(decoders, rounds, |decoder, round| {
             let (time, iterations) = self.measure(decoder, round * calls, calls);
             total += iterations;
             time.as_nanos() as f64 / (iterations * entries) as f64
         });
-        let iterations = total as f64 / (decoders.len() * ROUNDS * calls) as f64;
+        let iterations = total as f64 / (decoders.len() * rounds * calls) as f64;
         DecodeTimes { iterations, times }
     }
 }
 
-pub fn read_times(decoders: &[Named], lists: &Lists) -> Vec<Times> {
+pub fn read_times(decoders: &[Named], lists: &Lists, rounds: usize) -> Vec<Times> {
     let text = texts::sheet(lists);
+    let mut degrees = vec![0; NUMBER_BYTES * lists.n];
     let mut starts = vec![0; NUMBER_BYTES * lists.starts.len()];
     let mut columns = vec![0; NUMBER_BYTES * lists.columns.len()];
-    in_turns(decoders, |decoder, _| {
+    in_turns(decoders, rounds, |decoder, _| {
+        degrees.fill(0);
         starts.fill(0);
         columns.fill(0);
         let begun = Instant::now();
-        let answer = black_box(decoder.read_sheet(black_box(&text), &mut starts, &mut columns));
+        let text = black_box(&text);
+        let answer = black_box(decoder.read_sheet(text, &mut degrees, &mut starts, &mut columns));
         accepted_time(begun.elapsed(), &answer)
     })
 }
 
-pub fn write_times(decoders: &[Named], lists: &Lists) -> Vec<Times> {
+pub fn write_times(decoders: &[Named], lists: &Lists, rounds: usize) -> Vec<Times> {
     let (starts, columns) = (number_bytes(&lists.starts), number_bytes(&lists.columns));
     let graph = GraphBytes { n: lists.n, starts: &starts, columns: &columns };
+    let mut degrees = vec![0; NUMBER_BYTES * lists.n];
     let mut text = vec![0; texts::sheet(lists).len()];
-    in_turns(decoders, |decoder, _| {
+    in_turns(decoders, rounds, |decoder, _| {
+        degrees.fill(0);
         text.fill(0);
         let begun = Instant::now();
-        let answer = black_box(decoder.write_sheet(black_box(&graph), &mut text));
+        let answer = black_box(decoder.write_sheet(black_box(&graph), &mut degrees, &mut text));
         accepted_time(begun.elapsed(), &answer)
     })
 }
@@ -142,9 +148,13 @@ fn accepted_time<T>(time: Duration, answer: &Answer<T>) -> f64 {
 }
 
 /// Each decoder once a round, round after round.
-fn in_turns(decoders: &[Named], mut measure: impl FnMut(&dyn Decoder, usize) -> f64) -> Vec<Times> {
+fn in_turns(
+    decoders: &[Named],
+    rounds: usize,
+    mut measure: impl FnMut(&dyn Decoder, usize) -> f64,
+) -> Vec<Times> {
     let mut times = vec![Vec::new(); decoders.len()];
-    for round in 0..ROUNDS {
+    for round in 0..rounds {
         for (index, (_, decoder)) in decoders.iter().enumerate() {
             times[index].push(measure(*decoder, round));
         }

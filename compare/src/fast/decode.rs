@@ -1,7 +1,7 @@
 //! A flooding decoder: the two least magnitudes of each row, sums scattered along the
 //! rows, outgoing messages from a constant table.
 
-use super::graph::{self, Degree, Word, number};
+use super::graph::{self, Word, number};
 use super::tables::{HALVES, MINUS, Outgoing};
 use crate::interface::{DecodeInput, Decoded, Lent, LentLengths, Refusal, Settings, Verdict};
 
@@ -9,7 +9,7 @@ use crate::interface::{DecodeInput, Decoded, Lent, LentLengths, Refusal, Setting
 pub struct Frame<'a> {
     starts: &'a [Word],
     columns: &'a [Word],
-    degrees: Vec<Degree>,
+    degrees: &'a [Word],
     values: &'a [[u8; 4]],
     factor: f32,
     nch: u8,
@@ -22,11 +22,15 @@ pub fn first_bad_value(values: &[[u8; 4]]) -> Option<usize> {
     values.iter().position(|&value| !f32::from_le_bytes(value).is_finite())
 }
 
-pub fn prepare<'a>(input: &DecodeInput<'a>, lent: &LentLengths) -> Result<Frame<'a>, Refusal> {
+pub fn prepare<'a>(
+    input: &DecodeInput<'a>,
+    degrees: &'a mut [u8],
+    lent: &LentLengths,
+) -> Result<Frame<'a>, Refusal> {
     let refuse = |number, place| Err(Refusal { number, place });
     let (starts, columns) = graph::lists(&input.graph);
     let n = input.graph.n;
-    let degrees = graph::check(n, starts, columns)?;
+    let degrees = graph::check(n, starts, columns, degrees)?;
     let values = input.values.as_chunks().0;
     if values.len() != n {
         return refuse(13, values.len());
@@ -97,7 +101,7 @@ pub fn run(frame: &Frame, lent: &mut Lent) -> Decoded {
         *bit = level >> 7;
     }
     check_messages.fill(0);
-    let own = channel_halves(levels, &frame.degrees);
+    let own = channel_halves(levels, frame.degrees);
     let mut sums = vec![0; n];
 
     let mut iterations = 0;
@@ -139,11 +143,11 @@ fn quantise(frame: &Frame, levels: &mut [u8]) {
 }
 
 /// The channel level's part of each sum.
-fn channel_halves(levels: &[u8], degrees: &[Degree]) -> Vec<i32> {
-    let halves = |(&level, &degree): (&u8, &Degree)| {
-        let extra = match degree {
+fn channel_halves(levels: &[u8], degrees: &[Word]) -> Vec<i32> {
+    let halves = |(&level, &degree): (&u8, &Word)| {
+        let extra = match number(degree) {
             2 => 0,
-            _ => 2 - (degree & 1) as i32,
+            degree => 2 - (degree & 1) as i32,
         };
         let size = i32::from(level & 0x7f) * 2 + extra;
         if level & MINUS != 0 { -size } else { size }

@@ -2,25 +2,19 @@
 
 use crate::interface::{GraphBytes, NUMBER_BYTES, Refusal};
 
-pub const MOST_VARIABLES: usize = 8_192;
-pub const MOST_CHECKS: usize = 8_192;
-pub const MOST_ENTRIES: usize = 32_768;
-
-/// Holds any start or column.
-type Number = u16;
-
-/// Counts the checks of a variable.
-pub type Degree = u16;
+pub const MOST_VARIABLES: usize = 1_000_000;
+pub const MOST_CHECKS: usize = 1_000_000;
+pub const MOST_ENTRIES: usize = 4_000_000;
 
 /// A number of a list, lowest byte first.
 pub type Word = [u8; NUMBER_BYTES];
 
 pub fn number(word: Word) -> usize {
-    Number::from_le_bytes(word) as usize
+    u32::from_le_bytes(word) as usize
 }
 
 pub fn word(number: usize) -> Word {
-    (number as Number).to_le_bytes()
+    (number as u32).to_le_bytes()
 }
 
 /// The starts and the columns.
@@ -37,8 +31,13 @@ fn refusal(number: u8, place: usize) -> Refusal {
     Refusal { number, place }
 }
 
-/// The variables' degrees, where nothing is refused.
-pub fn check(n: usize, starts: &[Word], columns: &[Word]) -> Result<Vec<Degree>, Refusal> {
+/// The variables' degrees, counted in the lent list, where nothing is refused.
+pub fn check<'a>(
+    n: usize,
+    starts: &[Word],
+    columns: &[Word],
+    degrees: &'a mut [u8],
+) -> Result<&'a [Word], Refusal> {
     let counts_fit = (2..=MOST_VARIABLES).contains(&n)
         && (2..=MOST_CHECKS + 1).contains(&starts.len())
         && columns.len() <= MOST_ENTRIES;
@@ -46,30 +45,15 @@ pub fn check(n: usize, starts: &[Word], columns: &[Word]) -> Result<Vec<Degree>,
         return Err(refusal(2, 0));
     }
     check_starts(starts, columns.len())?;
-    let mut degrees = vec![0; n];
-    for (index, &column) in columns.iter().enumerate() {
-        match degrees.get_mut(number(column)) {
-            Some(degree) => *degree += 1,
-            None => return Err(refusal(3, index)),
-        }
-    }
-    let mut bad_check = None;
-    for (check, (start, end)) in rows(starts).enumerate() {
+    // Where a row rises, its last column is its largest.
+    let fits = |(start, end): (usize, usize)| {
         let row = &columns[start..end];
-        if let Some(index) = row.windows(2).position(|pair| number(pair[1]) <= number(pair[0])) {
-            return Err(refusal(4, start + index + 1));
-        }
-        if !(2..=64).contains(&row.len()) && bad_check.is_none() {
-            bad_check = Some(check);
-        }
+        row.last().is_none_or(|&last| number(last) < n) && first_fall(row).is_none()
+    };
+    if !rows(starts).all(fits) {
+        return Err(bad_column(n, starts, columns));
     }
-    if let Some(check) = bad_check {
-        return Err(refusal(5, check));
-    }
-    match degrees.iter().position(|degree| !(1..=32).contains(degree)) {
-        Some(variable) => Err(refusal(5, starts.len() - 1 + variable)),
-        None => Ok(degrees),
-    }
+    count_degrees(n, starts, columns, degrees)
 }
 
 fn check_starts(starts: &[Word], entries: usize) -> Result<(), Refusal> {
@@ -84,4 +68,43 @@ fn check_starts(starts: &[Word], entries: usize) -> Result<(), Refusal> {
         return Err(refusal(7, last));
     }
     Ok(())
+}
+
+/// The place in a row of the first column that is not above its predecessor.
+fn first_fall(row: &[Word]) -> Option<usize> {
+    let falls = |pair: &[Word]| number(pair[1]) <= number(pair[0]);
+    row.windows(2).position(falls).map(|index| index + 1)
+}
+
+/// 3 where a column is not below n, else 4, for lists that have one or the other.
+fn bad_column(n: usize, starts: &[Word], columns: &[Word]) -> Refusal {
+    if let Some(index) = columns.iter().position(|&column| number(column) >= n) {
+        return refusal(3, index);
+    }
+    let fall = |(start, end)| Some(start + first_fall(&columns[start..end])?);
+    refusal(4, rows(starts).find_map(fall).expect("a column is out of order"))
+}
+
+/// 6 for the list of degrees, then 5, of lists with nothing else wrong.
+pub fn count_degrees<'a>(
+    n: usize,
+    starts: &[Word],
+    columns: &[Word],
+    degrees: &'a mut [u8],
+) -> Result<&'a [Word], Refusal> {
+    let Some(degrees) = degrees.as_chunks_mut().0.get_mut(..n) else {
+        return Err(refusal(6, 0));
+    };
+    degrees.fill(word(0));
+    for &column in columns {
+        let degree = &mut degrees[number(column)];
+        *degree = word(number(*degree) + 1);
+    }
+    if let Some(check) = rows(starts).position(|(start, end)| !(2..=64).contains(&(end - start))) {
+        return Err(refusal(5, check));
+    }
+    match degrees.iter().position(|&degree| !(1..=32).contains(&number(degree))) {
+        Some(variable) => Err(refusal(5, starts.len() - 1 + variable)),
+        None => Ok(degrees),
+    }
 }

@@ -14,7 +14,12 @@ pub struct Read {
     pub columns: Vec<Word>,
 }
 
-pub fn read(text: &[u8], starts_lent: usize, columns_lent: usize) -> Result<Read, Refusal> {
+pub fn read(
+    text: &[u8],
+    degrees: &mut [u8],
+    starts_lent: usize,
+    columns_lent: usize,
+) -> Result<Read, Refusal> {
     let refusal = |number, place| Refusal { number, place };
     let mut rest = text.strip_prefix(TOP).ok_or(refusal(1, 1))?;
     let (n, m) = take_pair(&mut rest).ok_or(refusal(1, 2))?;
@@ -43,7 +48,7 @@ pub fn read(text: &[u8], starts_lent: usize, columns_lent: usize) -> Result<Read
         columns.push(word(entry.1 as usize));
     }
     starts.resize(1 + m as usize, word(columns.len()));
-    graph::check(n as usize, &starts, &columns)?;
+    graph::count_degrees(n as usize, &starts, &columns, degrees)?;
     if starts_lent / NUMBER_BYTES < starts.len() || columns_lent / NUMBER_BYTES < columns.len() {
         return Err(refusal(6, 0));
     }
@@ -73,18 +78,20 @@ fn take_number(rest: &mut &[u8], ending: u8) -> Option<u32> {
     None
 }
 
-/// How many digits a number below 100,000 has.
+/// How many digits a number below 10,000,000 has.
 fn digits(number: usize) -> usize {
     1 + usize::from(number > 9)
         + usize::from(number > 99)
         + usize::from(number > 999)
         + usize::from(number > 9_999)
+        + usize::from(number > 99_999)
+        + usize::from(number > 999_999)
 }
 
 /// The text's length, where nothing is refused.
-pub fn measure(graph: &GraphBytes, text_lent: usize) -> Result<usize, Refusal> {
+pub fn measure(graph: &GraphBytes, degrees: &mut [u8], text_lent: usize) -> Result<usize, Refusal> {
     let (starts, columns) = graph::lists(graph);
-    graph::check(graph.n, starts, columns)?;
+    graph::check(graph.n, starts, columns, degrees)?;
     let m = starts.len() - 1;
     let mut length = TOP.len() + digits(graph.n) + digits(m) + 2 + MIDDLE.len();
     for (check, (start, end)) in graph::rows(starts).enumerate() {

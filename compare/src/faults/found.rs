@@ -4,6 +4,7 @@ use super::{Fault, Faulty};
 use crate::fast::Fast;
 use crate::generate::cases::Case;
 use crate::harness::{self, Budget, Failure};
+use crate::interface::NUMBER_BYTES;
 
 const SEED: u64 = 7;
 
@@ -109,4 +110,59 @@ fn faults_of_sheets() {
         assert!(matches!(found(fault).case, Case::Read(_)));
     }
     assert!(matches!(found(Fault::TextLengthOneMore).case, Case::Write(_)));
+}
+
+/// What the harness says of each of these faults, which is shown by a small graph or sheet.
+fn messages<const COUNT: usize>(faults: [Fault; COUNT]) -> [String; COUNT] {
+    faults.map(|fault| {
+        let failure = found(fault);
+        let entries = match &failure.case {
+            Case::Read(case) => case.text.iter().filter(|&&byte| byte == b'\n').count(),
+            Case::Write(case) => case.columns.len() / NUMBER_BYTES,
+            Case::Decode(_) | Case::Twin(_) => size(&failure).0,
+        };
+        assert!(entries <= 64, "{fault:?}");
+        failure.message
+    })
+}
+
+#[test]
+fn faults_in_the_order_of_the_degrees() {
+    let [after_5, before_4] = messages([Fault::DegreesAfterFive, Fault::DegreesBeforeFour]);
+    assert_eq!(after_5, "the answer is Refused(5), not Refused(6)");
+    assert_eq!(before_4, "the answer is Refused(6), not Refused(4)");
+}
+
+#[test]
+fn faults_of_the_list_of_degrees() {
+    let changed = messages([
+        Fault::DegreesChangedByFour,
+        Fault::DegreesChangedBySix,
+        Fault::DegreesCountedPastN,
+    ]);
+    assert!(changed.iter().all(|message| message.contains(" of degrees is 00, not ")));
+    let left = messages([Fault::DegreesLeftAfterFive, Fault::DegreesLeftByLaterRefusals]);
+    assert!(left.iter().all(|message| message.contains(" of degrees is ")));
+    let [companion] = messages([Fault::DegreesLeftByCompanion]);
+    assert!(companion.starts_with("after the companion, byte "));
+    assert!(companion.contains(" of degrees is "));
+}
+
+#[test]
+fn faults_of_numbers_cut_to_16_bits() {
+    let [starts, columns] = messages([Fault::StartsOf16Bits, Fault::ColumnsOf16Bits]);
+    assert!(starts.contains("not Refused(7)"));
+    assert!(columns.contains("not Refused(3)"));
+}
+
+/// Found before the strips, in a sheet of 32,769 entries.
+#[test]
+fn the_old_limit_in_the_reader() {
+    let series = harness::run(&Faulty(Fault::OldLimitInReader), SEED, Budget::Inputs(5_000));
+    let failure = series.failure.expect("the fault is found");
+    assert!(failure.message.starts_with("the answer is Refused(2), not "));
+    let Case::Read(case) = &failure.case else {
+        panic!("found in {:?}", failure.case);
+    };
+    assert!(case.text.iter().filter(|&&byte| byte == b'\n').count() >= 3 + 32_768);
 }

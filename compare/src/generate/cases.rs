@@ -1,7 +1,7 @@
 //! Whole inputs of a call, made from the parts.
 
 use super::codewords::Codewords;
-use super::{Lists, damage, graphs, limits, settings, texts};
+use super::{Lists, damage, graphs, limits, orders, settings, texts};
 use crate::interface::{LentLengths, NUMBER_BYTES, Settings, f32_bytes, number_bytes};
 use crate::paper::Limits;
 use crate::paper::run::check_settings;
@@ -15,6 +15,7 @@ pub struct DecodeCase {
     pub columns: Vec<u8>,
     pub values: Vec<u8>,
     pub settings: Settings,
+    pub degrees: usize,
     pub lent: LentLengths,
 }
 
@@ -29,16 +30,18 @@ impl DecodeCase {
 #[derive(Clone, Debug)]
 pub struct ReadCase {
     pub text: Vec<u8>,
+    pub degrees: usize,
     pub starts: usize,
     pub columns: usize,
 }
 
-/// A graph to write and the length of the text lent for it.
+/// A graph to write and the lengths of the list and the text lent for it.
 #[derive(Clone, Debug)]
 pub struct WriteCase {
     pub n: usize,
     pub starts: Vec<u8>,
     pub columns: Vec<u8>,
+    pub degrees: usize,
     pub text: usize,
 }
 
@@ -63,27 +66,27 @@ pub struct ProgramCase {
     pub run_text: Vec<u8>,
 }
 
-/// The inputs at the limits that are in every series.
-pub fn at_limits(random: &mut Random) -> Vec<Case> {
-    let mut cases = Vec::new();
-    for lists in limits::graphs(Limits::LENT, random) {
-        let values = settings::values(random, lists.n, 1.0);
-        let settings = Settings { limit: 3, ..settings::good(random) };
-        let decode = decode_case(&lists, &values, settings);
-        cases.push(Case::Write(write_case(&lists)));
-        cases.push(Case::Decode(decode));
+/// The inputs at the program's limits and one past them, and every order of refusals around
+/// the list of degrees; they are in every series.
+pub fn at_small_limits(random: &mut Random) -> Vec<Case> {
+    let mut cases = orders::cases();
+    let graphs: Vec<Lists> = limits::graphs(Limits::PROGRAM, random).collect();
+    for lists in &graphs {
+        cases.push(Case::Write(write_case(lists)));
+        cases.push(Case::Decode(short_decode(random, lists)));
     }
     // 65,536 values too many.
     let lists = graphs::any(random);
     let values = vec![1.0; lists.n + 65_536];
     cases.push(Case::Decode(decode_case(&lists, &values, settings::good(random))));
-    let starts = NUMBER_BYTES * (Limits::LENT.checks + 1);
-    let columns = NUMBER_BYTES * Limits::LENT.entries;
-    for text in limits::sheets(Limits::LENT, random) {
-        cases.push(Case::Read(ReadCase { text, starts, columns }));
+    for text in limits::sheets(Limits::PROGRAM, random) {
+        let room = |count: usize| NUMBER_BYTES * (count + 2);
+        let Limits { variables, checks, entries } = Limits::PROGRAM;
+        let (degrees, starts, columns) = (room(variables), room(checks + 1), room(entries));
+        cases.push(Case::Read(ReadCase { text, degrees, starts, columns }));
     }
     let lists = graphs::regular(random, 1_200, 3, 6);
-    cases.push(Case::Twin(twin_of(random, &lists)));
+    cases.push(Case::Twin(any_twin_of(random, &lists)));
     cases
 }
 
@@ -96,24 +99,48 @@ pub fn any(random: &mut Random) -> Case {
     }
 }
 
-fn decode_case(lists: &Lists, values: &[f32], settings: Settings) -> DecodeCase {
+pub fn decode_case(lists: &Lists, values: &[f32], settings: Settings) -> DecodeCase {
     DecodeCase {
         n: lists.n,
         starts: number_bytes(&lists.starts),
         columns: number_bytes(&lists.columns),
         values: f32_bytes(values),
         settings,
+        degrees: NUMBER_BYTES * countable(lists.n),
         lent: LentLengths::needed(lists.n, lists.columns.len()),
     }
 }
 
-fn write_case(lists: &Lists) -> WriteCase {
+/// A decode of few iterations.
+pub fn short_decode(random: &mut Random, lists: &Lists) -> DecodeCase {
+    let values = settings::values(random, lists.n, 1.0);
+    let settings = Settings { limit: 3, ..settings::good(random) };
+    decode_case(lists, &values, settings)
+}
+
+pub fn write_case(lists: &Lists) -> WriteCase {
     WriteCase {
         n: lists.n,
         starts: number_bytes(&lists.starts),
         columns: number_bytes(&lists.columns),
+        degrees: NUMBER_BYTES * countable(lists.n),
         text: texts::sheet(lists).len(),
     }
+}
+
+/// The graph's sheet, read into lists of just its lengths.
+pub fn read_case(lists: &Lists) -> ReadCase {
+    ReadCase {
+        text: texts::sheet(lists),
+        degrees: NUMBER_BYTES * countable(lists.n),
+        starts: NUMBER_BYTES * lists.starts.len(),
+        columns: NUMBER_BYTES * lists.columns.len(),
+    }
+}
+
+/// As many variables as a list of degrees is ever lent for.
+fn countable(n: usize) -> usize {
+    n.min(Limits::LENT.variables + 1)
 }
 
 /// A length that is mostly enough: exact or longer, rarely one byte short or nothing.
@@ -122,6 +149,20 @@ fn lent_length(random: &mut Random, needed: usize) -> usize {
         0 => needed.saturating_sub(1),
         1 => random.below(needed + 1),
         2..=40 => needed + random.between(1, 9),
+        _ => needed,
+    }
+}
+
+/// The same for the list of degrees: exact, longer by parts of a number or by some, now and
+/// then one byte short, shorter or nothing. For very many variables it is too short.
+fn degrees_length(random: &mut Random, n: usize) -> usize {
+    let needed = NUMBER_BYTES * n.min(70_000);
+    match random.below(40) {
+        0 => needed.saturating_sub(1),
+        1 => random.below(needed + 1),
+        2 => 0,
+        3..=10 => needed + random.between(1, 3),
+        11..=20 => needed + random.between(4, 40),
         _ => needed,
     }
 }
@@ -137,7 +178,8 @@ fn damages(random: &mut Random) -> usize {
 
 fn any_decode(random: &mut Random) -> DecodeCase {
     let large = random.one_in(2_000);
-    let mut lists = if large { graphs::large(Limits::LENT, random) } else { graphs::any(random) };
+    let mut lists =
+        if large { graphs::large(Limits::PROGRAM, random) } else { graphs::any(random) };
     let mut settings = settings::good(random);
     if large {
         settings.limit = settings.limit.min(10);
@@ -157,7 +199,7 @@ fn any_decode(random: &mut Random) -> DecodeCase {
     case.starts = damage::ragged(random, case.starts);
     case.columns = damage::ragged(random, case.columns);
     case.values = damage::ragged(random, case.values);
-    DecodeCase { lent, ..case }
+    DecodeCase { degrees: degrees_length(random, lists.n), lent, ..case }
 }
 
 fn any_write(random: &mut Random) -> WriteCase {
@@ -166,18 +208,20 @@ fn any_write(random: &mut Random) -> WriteCase {
     (0..damages(random)).for_each(|_| damage::damage(Limits::LENT, random, &mut lists));
     let starts = damage::ragged(random, number_bytes(&lists.starts));
     let columns = damage::ragged(random, number_bytes(&lists.columns));
-    WriteCase { n: lists.n, starts, columns, text: lent_length(random, text) }
+    let degrees = degrees_length(random, lists.n);
+    WriteCase { n: lists.n, starts, columns, degrees, text: lent_length(random, text) }
 }
 
 fn any_read(random: &mut Random) -> ReadCase {
     let large = random.one_in(1_000);
-    let lists = if large { graphs::large(Limits::LENT, random) } else { graphs::any(random) };
+    let lists = if large { graphs::large(Limits::PROGRAM, random) } else { graphs::any(random) };
     let mut text = texts::sheet(&lists);
     if random.one_in(2) {
         (0..random.between(1, 2)).for_each(|_| texts::damage(Limits::LENT, random, &mut text));
     }
     ReadCase {
         text,
+        degrees: degrees_length(random, lists.n),
         starts: lent_length(random, NUMBER_BYTES * lists.starts.len()),
         columns: lent_length(random, NUMBER_BYTES * lists.columns.len()),
     }
@@ -185,7 +229,7 @@ fn any_read(random: &mut Random) -> ReadCase {
 
 fn any_twin(random: &mut Random) -> TwinCase {
     let lists = graphs::any(random);
-    let mut case = twin_of(random, &lists);
+    let mut case = any_twin_of(random, &lists);
     if random.one_in(3) {
         let flipped = random.below(lists.n);
         case.word[flipped] ^= 1;
@@ -194,7 +238,7 @@ fn any_twin(random: &mut Random) -> TwinCase {
 }
 
 /// A decode that is accepted, and a codeword.
-fn twin_of(random: &mut Random, lists: &Lists) -> TwinCase {
+fn any_twin_of(random: &mut Random, lists: &Lists) -> TwinCase {
     let settings = settings::good(random);
     let factor = check_settings(&settings).map_or(1.0, |checked| checked.factor);
     let values = settings::values(random, lists.n, factor);

@@ -1,7 +1,7 @@
 //! Graphs damaged in one of the ways that the graph's check looks for.
 
 use super::Lists;
-use crate::interface::{LARGEST_NUMBER, as_number};
+use crate::interface::as_number;
 use crate::paper::Limits;
 use crate::random::Random;
 
@@ -36,12 +36,18 @@ fn damage_starts(random: &mut Random, lists: &mut Lists) {
         _ => random.below(lists.starts.len()),
     };
     let start = &mut lists.starts[index];
-    *start = match random.below(4) {
-        0 => as_number((*start as usize).wrapping_add(1)),
-        1 => as_number((*start as usize).wrapping_sub(1)),
-        2 => random.pick(&[0, 1, LARGEST_NUMBER, LARGEST_NUMBER / 2 + 1]),
-        _ => as_number(random.word() as usize),
+    *start = match random.below(5) {
+        0 => start.wrapping_add(1),
+        1 => start.wrapping_sub(1),
+        2 => random.pick(&[0, 1, 65_535, 65_536, 1 << 31, u32::MAX]),
+        3 => alike_in_16_bits(random, *start),
+        _ => random.word() as u32,
     };
+}
+
+/// Another number to all but those who look at 16 bits of it.
+fn alike_in_16_bits(random: &mut Random, number: u32) -> u32 {
+    number ^ random.pick(&[1 << 16, 1 << 17, 1 << 24, 1 << 31, 0xffff_0000])
 }
 
 fn damage_columns(limits: Limits, random: &mut Random, lists: &mut Lists) {
@@ -50,8 +56,11 @@ fn damage_columns(limits: Limits, random: &mut Random, lists: &mut Lists) {
     }
     for _ in 0..random.between(1, 2) {
         let index = random.below(lists.columns.len());
-        let (n, most, largest) = (lists.n, limits.variables, LARGEST_NUMBER as usize);
-        lists.columns[index] = as_number(random.pick(&[n, n.wrapping_add(1), largest, most, 0]));
+        let (n, most, largest) = (lists.n, limits.variables, u32::MAX as usize);
+        lists.columns[index] = match random.below(3) {
+            0 => alike_in_16_bits(random, lists.columns[index]),
+            _ => as_number(random.pick(&[n, n.wrapping_add(1), largest, most, 0])),
+        };
     }
 }
 

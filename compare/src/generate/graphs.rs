@@ -45,14 +45,16 @@ pub fn any(random: &mut Random) -> Lists {
     irregular(random, variables, checks, most)
 }
 
-/// Thousands of entries, by one of a few shapes, most of them near the limits.
+/// Thousands of entries, by one of a few shapes, most of them near the limits, one with
+/// columns past 16 bits.
 pub fn large(limits: Limits, random: &mut Random) -> Lists {
-    match random.below(5) {
+    match random.below(6) {
         0 => fullest(limits, random),
         1 => regular(random, limits.entries / 32, 32, 64),
         2 => regular(random, limits.variables - 2, 3, 6),
         3 => irregular(random, 4_000, 1_500, 20),
-        _ => irregular(random, 2_000, 900, 64),
+        4 => irregular(random, 2_000, 900, 64),
+        _ => regular(random, 70_000, 2, 4),
     }
 }
 
@@ -106,21 +108,73 @@ pub fn regular(
     variable_degree: usize,
     check_degree: usize,
 ) -> Lists {
-    let sockets = n * variable_degree;
-    let mut columns: Vec<u32> = (0..sockets).map(|socket| as_number(socket % n)).collect();
+    let mut columns = shuffled_sockets(random, n, variable_degree);
+    part_repeats(random, &mut columns, check_degree, |_, _| true);
+    in_rows(n, columns, check_degree)
+}
+
+/// The same with a codeword of about as many ones as zeros, for a check degree that is even
+/// and divides the entries. Of two odd rows, the first changes a one for a zero of the
+/// second, and repeats are changed for variables of the same bit.
+pub fn regular_with_codeword(
+    random: &mut Random,
+    n: usize,
+    variable_degree: usize,
+    check_degree: usize,
+) -> (Lists, Vec<u8>) {
+    let mut word: Vec<u8> = (0..n).map(|_| random.below(2) as u8).collect();
+    word[0] ^= word.iter().fold(0, |parity, bit| parity ^ bit);
+    let mut columns = shuffled_sockets(random, n, variable_degree);
+    let bit = |variable: u32| word[variable as usize];
+    let is_odd = |row: &[u32]| row.iter().fold(0, |parity, &variable| parity ^ bit(variable)) == 1;
+    let rows = columns.chunks(check_degree).enumerate();
+    let odd: Vec<usize> = rows.filter(|(_, row)| is_odd(row)).map(|(check, _)| check).collect();
+    for pair in odd.chunks_exact(2) {
+        let entry_of = |check: usize, wanted: u8| {
+            let mut row = check * check_degree..(check + 1) * check_degree;
+            row.find(|&entry| bit(columns[entry]) == wanted).expect("both bits in an odd row")
+        };
+        let (one, zero) = (entry_of(pair[0], 1), entry_of(pair[1], 0));
+        columns.swap(one, zero);
+    }
+    part_repeats(random, &mut columns, check_degree, |a, b| bit(a) == bit(b));
+    (in_rows(n, columns, check_degree), word)
+}
+
+fn shuffled_sockets(random: &mut Random, n: usize, variable_degree: usize) -> Vec<u32> {
+    let mut columns: Vec<u32> =
+        (0..n * variable_degree).map(|socket| as_number(socket % n)).collect();
     random.shuffle(&mut columns);
+    columns
+}
+
+/// Sorts each row, and swaps what repeats in it with other entries where that is allowed.
+fn part_repeats(
+    random: &mut Random,
+    columns: &mut [u32],
+    check_degree: usize,
+    allowed: impl Fn(u32, u32) -> bool,
+) {
     loop {
         columns.chunks_mut(check_degree).for_each(|row| row.sort_unstable());
-        let repeats: Vec<usize> = (1..sockets)
+        let repeats: Vec<usize> = (1..columns.len())
             .filter(|&entry| entry % check_degree > 0 && columns[entry] == columns[entry - 1])
             .collect();
         if repeats.is_empty() {
-            break;
+            return;
         }
         for entry in repeats {
-            columns.swap(entry, random.below(sockets));
+            let other = random.below(columns.len());
+            if allowed(columns[entry], columns[other]) {
+                columns.swap(entry, other);
+            }
         }
     }
-    let rows: Vec<Vec<u32>> = columns.chunks(check_degree).map(<[u32]>::to_vec).collect();
-    Lists::from_rows(n, &rows)
+}
+
+/// The columns cut into rows of one degree; the last row has what is left.
+fn in_rows(n: usize, columns: Vec<u32>, check_degree: usize) -> Lists {
+    let rows = (0..columns.len()).step_by(check_degree);
+    let starts = rows.chain([columns.len()]).map(as_number).collect();
+    Lists { n, starts, columns }
 }

@@ -1,17 +1,18 @@
 //! Sheets and run texts, good and damaged.
 
 use super::{Lists, settings};
-use crate::interface::{LARGEST_NUMBER, Settings};
+use crate::interface::Settings;
 use crate::paper::Limits;
 use crate::random::Random;
+use std::fmt::Write;
 
 /// The sheet of any lists whose starts are in order, admitted or not.
 pub fn sheet(lists: &Lists) -> Vec<u8> {
-    let rows = lists.rows();
-    let mut text = format!("variables checks\n{} {}\ncheck variable\n", lists.n, rows.len());
-    for (check, row) in rows.iter().enumerate() {
-        for variable in row {
-            text += &format!("{check} {variable}\n");
+    let graph = lists.graph();
+    let mut text = format!("variables checks\n{} {}\ncheck variable\n", graph.n, graph.m());
+    for (check, row) in graph.rows().enumerate() {
+        for variable in &graph.columns[row] {
+            writeln!(text, "{check} {variable}").expect("a string takes every line");
         }
     }
     text.into_bytes()
@@ -83,7 +84,7 @@ fn damage_words(limits: Limits, random: &mut Random, text: &mut Vec<u8>) {
     let end = length.map_or(text.len(), |length| start + length);
     let old = String::from_utf8_lossy(&text[start..end]).into_owned();
     let number: u128 = old.parse().unwrap_or(0);
-    let (most, largest) = (limits.variables, LARGEST_NUMBER as usize);
+    let (most, largest) = (limits.variables, usize::from(u16::MAX));
     let word = match random.below(12) {
         0 => format!("0{old}"),
         1 => number.saturating_add(1).to_string(),

@@ -11,6 +11,7 @@ pub enum Part<'a> {
     Lent(&'static str, usize),
 }
 
+#[derive(Clone)]
 pub struct Arena {
     bytes: Vec<u8>,
     parts: Vec<(&'static str, Range<usize>)>,
@@ -44,6 +45,15 @@ impl Arena {
         Arena { bytes, parts: ranges }
     }
 
+    /// The bytes of one part.
+    pub fn part(&self, name: &str) -> &[u8] {
+        &self.bytes[self.range(name)]
+    }
+
+    fn range(&self, name: &str) -> Range<usize> {
+        self.parts.iter().find(|part| part.0 == name).expect("a part").1.clone()
+    }
+
     /// The parts, each as a slice of its own.
     pub fn slices<const COUNT: usize>(&mut self) -> [&mut [u8]; COUNT] {
         let ranges: [Range<usize>; COUNT] = std::array::from_fn(|part| self.parts[part].1.clone());
@@ -54,8 +64,7 @@ impl Arena {
     pub fn with(&self, beginnings: &[(&str, Vec<u8>)]) -> Vec<u8> {
         let mut expected = self.bytes.clone();
         for (name, beginning) in beginnings {
-            let (_, range) = self.parts.iter().find(|part| part.0 == *name).expect("a part");
-            expected[range.start..][..beginning.len()].copy_from_slice(beginning);
+            expected[self.range(name)][..beginning.len()].copy_from_slice(beginning);
         }
         expected
     }
@@ -63,8 +72,11 @@ impl Arena {
     /// Tells the first byte that is not as expected.
     pub fn compare(&self, expected: &[u8]) -> Result<(), String> {
         let found = black_box(&self.bytes);
-        let Some(at) = (0..found.len()).find(|&at| found[at] != expected[at]) else {
+        if found == expected {
             return Ok(());
+        }
+        let Some(at) = (0..found.len()).find(|&at| found[at] != expected[at]) else {
+            return Err("other bytes than expected".to_string());
         };
         let place = match self.parts.iter().find(|part| part.1.contains(&at)) {
             Some((name, range)) => format!("byte {} of {name}", at - range.start),
@@ -107,6 +119,7 @@ mod tests {
         let arena = Arena::new(&mut Random::new(4), &[Part::Lent("only", 4)]);
         let start = arena.parts[0].1.start;
         let expected = arena.with(&[("only", vec![1, 2])]);
+        assert_eq!(arena.part("only"), &arena.bytes[start..start + 4]);
         assert_eq!(expected[start..start + 2], [1, 2]);
         assert_eq!(expected[start + 2..], arena.bytes[start + 2..]);
     }

@@ -8,7 +8,7 @@ use crate::interface::{
     Answer, DecodeInput, Decoded, Decoder, GraphBytes, Lent, SheetCounts, f32_list, i32_bytes,
     number_bytes, numbers,
 };
-use crate::paper::{self, Graph, Level, Limits, Refusal};
+use crate::paper::{self, Graph, Level, Limits, Outcome, Refusal};
 use crate::random::Random;
 use std::fmt::Debug;
 
@@ -23,6 +23,34 @@ pub fn check(case: &Case, decoder: &dyn Decoder, fill: u64) -> Result<Seen, Stri
     }
 }
 
+/// What a call and its companion are given and lent, each in an allocation of its own, and
+/// what they must leave there.
+struct Pair {
+    entry: Arena,
+    companion: Arena,
+    entry_left: Vec<u8>,
+    companion_left: Vec<u8>,
+}
+
+impl Pair {
+    /// Both leave the list of degrees alike; the other lists are the call's.
+    fn new(arena: Arena, degrees: &[u32], lists: Vec<(&str, Vec<u8>)>) -> Pair {
+        let degrees = vec![("degrees", number_bytes(degrees))];
+        Pair {
+            companion_left: arena.with(&degrees),
+            entry_left: arena.with(&[degrees, lists].concat()),
+            companion: arena.clone(),
+            entry: arena,
+        }
+    }
+
+    fn compare(&self) -> Result<(), String> {
+        self.entry.compare(&self.entry_left)?;
+        let after_companion = |difference| format!("after the companion, {difference}");
+        self.companion.compare(&self.companion_left).map_err(after_companion)
+    }
+}
+
 fn check_decode(
     case: &DecodeCase,
     decoder: &dyn Decoder,
@@ -31,43 +59,34 @@ fn check_decode(
     let (starts, columns) = (numbers(&case.starts), numbers(&case.columns));
     let graph = Graph { n: case.n, starts: &starts, columns: &columns };
     let values = f32_list(&case.values);
-    let expected = paper::decode(Limits::LENT, &graph, &values, &case.settings, &case.lent);
-
-    let mut arena = Arena::new(
+    let arena = Arena::new(
         random,
         &[
             Part::Given("starts", &case.starts),
             Part::Lent("levels", case.lent.levels),
             Part::Given("columns", &case.columns),
             Part::Lent("variable messages", case.lent.variable_messages),
+            Part::Lent("degrees", case.degrees),
             Part::Lent("check messages", case.lent.check_messages),
             Part::Given("values", &case.values),
             Part::Lent("sums", case.lent.sums),
             Part::Lent("bits", case.lent.bits),
         ],
     );
-    let expected_bytes = match &expected {
-        Ok(outcome) => arena.with(&[
-            ("levels", level_bytes(&outcome.levels)),
-            ("variable messages", level_bytes(&outcome.variable_messages)),
-            ("check messages", level_bytes(&outcome.check_messages)),
-            ("sums", i32_bytes(&outcome.sums)),
-            ("bits", outcome.bits.clone()),
-        ]),
-        Err(_) => arena.with(&[]),
-    };
+    let degrees = &mut numbers(arena.part("degrees"));
+    let (settings, lent) = (&case.settings, &case.lent);
+    let expected = paper::decode(Limits::LENT, &graph, &values, settings, degrees, lent);
+    let left = expected.as_ref().map_or(Vec::new(), lists_of);
+    let mut pair = Pair::new(arena, degrees, left);
 
-    let [starts, levels, columns, variable_messages, check_messages, values, sums, bits] =
-        arena.slices();
-    let graph = GraphBytes { n: case.n, starts, columns };
-    let input = DecodeInput { graph, values, settings: case.settings };
-    let mut lent = Lent { levels, variable_messages, check_messages, sums, bits };
-    let answer = decoder.decode(&input, &mut lent);
+    let answer = decode_in(&mut pair.entry, case, decoder);
     let number = match &answer {
         Answer::Refused(number) => *number,
         Answer::Accepted(_) | Answer::Malformed(_) => 0,
     };
-    let place = decoder.decode_place(&input.graph, input.values, number);
+    let [starts, _, columns, _, degrees, _, values] = pair.companion.slices();
+    let graph = GraphBytes { n: case.n, starts, columns };
+    let place = decoder.decode_place(&graph, values, number, degrees);
 
     let numbers = expected.map(|outcome| Decoded {
         verdict: outcome.verdict,
@@ -75,39 +94,60 @@ fn check_decode(
         unsatisfied: outcome.unsatisfied,
     });
     compare_answers(&numbers, &answer, place)?;
-    arena.compare(&expected_bytes)?;
+    pair.compare()?;
     let iterations = numbers.ok().map(|numbers| numbers.iterations);
     Ok(Seen { call: "decode", refusal: number_of(&numbers), iterations })
 }
 
+/// What an accepted decode leaves beside the degrees.
+fn lists_of(outcome: &Outcome) -> Vec<(&'static str, Vec<u8>)> {
+    vec![
+        ("levels", level_bytes(&outcome.levels)),
+        ("variable messages", level_bytes(&outcome.variable_messages)),
+        ("check messages", level_bytes(&outcome.check_messages)),
+        ("sums", i32_bytes(&outcome.sums)),
+        ("bits", outcome.bits.clone()),
+    ]
+}
+
+fn decode_in(arena: &mut Arena, case: &DecodeCase, decoder: &dyn Decoder) -> Answer<Decoded> {
+    let [starts, levels, columns, variable_messages, degrees, check_messages, values, sums, bits] =
+        arena.slices();
+    let graph = GraphBytes { n: case.n, starts, columns };
+    let input = DecodeInput { graph, values, settings: case.settings };
+    let mut lent = Lent { levels, variable_messages, check_messages, sums, bits };
+    decoder.decode(&input, degrees, &mut lent)
+}
+
 fn check_read(case: &ReadCase, decoder: &dyn Decoder, random: &mut Random) -> Result<Seen, String> {
-    let expected = paper::read_sheet(Limits::LENT, &case.text, case.starts, case.columns);
-    let mut arena = Arena::new(
+    let arena = Arena::new(
         random,
         &[
             Part::Lent("starts", case.starts),
             Part::Given("text", &case.text),
+            Part::Lent("degrees", case.degrees),
             Part::Lent("columns", case.columns),
         ],
     );
-    let expected_bytes = match &expected {
-        Ok(sheet) => arena.with(&[
-            ("starts", number_bytes(&sheet.starts)),
-            ("columns", number_bytes(&sheet.columns)),
-        ]),
-        Err(_) => arena.with(&[]),
+    let degrees = &mut numbers(arena.part("degrees"));
+    let (starts, columns) = (case.starts, case.columns);
+    let expected = paper::read_sheet(Limits::LENT, &case.text, degrees, starts, columns);
+    let left = match &expected {
+        Ok(sheet) => {
+            vec![("starts", number_bytes(&sheet.starts)), ("columns", number_bytes(&sheet.columns))]
+        }
+        Err(_) => Vec::new(),
     };
-    let [starts, text, columns] = arena.slices();
-    let answer = decoder.read_sheet(text, starts, columns);
-    let place = decoder.read_sheet_place(text, case.starts, case.columns);
+    let mut pair = Pair::new(arena, degrees, left);
 
-    let numbers = expected.map(|sheet| SheetCounts {
-        n: sheet.n,
-        m: sheet.starts.len() - 1,
-        entries: sheet.columns.len(),
-    });
+    let [starts, text, degrees, columns] = pair.entry.slices();
+    let answer = decoder.read_sheet(text, degrees, starts, columns);
+    let [_, text, degrees] = pair.companion.slices();
+    let place = decoder.read_sheet_place(text, degrees, case.starts, case.columns);
+
+    let numbers = expected.map(|sheet| SheetCounts { n: sheet.n, m: sheet.starts.len() - 1 });
     compare_answers(&numbers, &answer, place)?;
-    arena.compare(&expected_bytes)?;
+    pair.compare()?;
     Ok(Seen { call: "read", refusal: number_of(&numbers), iterations: None })
 }
 
@@ -118,27 +158,29 @@ fn check_write(
 ) -> Result<Seen, String> {
     let (starts, columns) = (numbers(&case.starts), numbers(&case.columns));
     let graph = Graph { n: case.n, starts: &starts, columns: &columns };
-    let expected = paper::write_sheet(Limits::LENT, &graph, case.text);
-    let mut arena = Arena::new(
+    let arena = Arena::new(
         random,
         &[
             Part::Given("starts", &case.starts),
             Part::Lent("text", case.text),
             Part::Given("columns", &case.columns),
+            Part::Lent("degrees", case.degrees),
         ],
     );
-    let expected_bytes = match &expected {
-        Ok(text) => arena.with(&[("text", text.clone())]),
-        Err(_) => arena.with(&[]),
-    };
-    let [starts, text, columns] = arena.slices();
-    let graph = GraphBytes { n: case.n, starts, columns };
-    let answer = decoder.write_sheet(&graph, text);
-    let place = decoder.write_sheet_place(&graph, case.text);
+    let degrees = &mut numbers(arena.part("degrees"));
+    let expected = paper::write_sheet(Limits::LENT, &graph, degrees, case.text);
+    let numbers = expected.as_ref().map(Vec::len).map_err(|refusal| *refusal);
+    let left = expected.map_or(Vec::new(), |text| vec![("text", text)]);
+    let mut pair = Pair::new(arena, degrees, left);
 
-    let numbers = expected.map(|text| text.len());
+    let [starts, text, columns, degrees] = pair.entry.slices();
+    let answer = decoder.write_sheet(&GraphBytes { n: case.n, starts, columns }, degrees, text);
+    let [starts, _, columns, degrees] = pair.companion.slices();
+    let graph = GraphBytes { n: case.n, starts, columns };
+    let place = decoder.write_sheet_place(&graph, degrees, case.text);
+
     compare_answers(&numbers, &answer, place)?;
-    arena.compare(&expected_bytes)?;
+    pair.compare()?;
     Ok(Seen { call: "write", refusal: number_of(&numbers), iterations: None })
 }
 

@@ -36,7 +36,7 @@ fn decode(case: &DecodeCase) -> String {
     text += &format!("  kind {} gain {} variance {}", s.kind, digits(&s.gain), digits(&s.variance));
     text += &format!(" channel {} message {}", s.channel, s.message);
     text += &format!(" offsets {} {} {} limit {}\n", s.phi_s, s.phi_a, s.phi_0, s.limit);
-    text += &format!("  lent bytes {}\n", listed(&case.lent.as_array()));
+    text += &format!("  lent bytes {}, then {}\n", case.degrees, listed(&case.lent.as_array()));
     text
 }
 
@@ -48,15 +48,17 @@ pub fn described(case: &Case) -> String {
             format!("twin decodes\n{}  word {}\n", decode(&case.decode), listed(&case.word))
         }
         Case::Read(case) => format!(
-            "read a sheet\n  text ({} bytes) \"{}\"\n  lent bytes {} {}\n",
+            "read a sheet\n  text ({} bytes) \"{}\"\n  lent bytes {}, then {} {}\n",
             case.text.len(),
             case.text[..case.text.len().min(10 * SHOWN)].escape_ascii(),
+            case.degrees,
             case.starts,
             case.columns,
         ),
         Case::Write(case) => format!(
-            "write a sheet\n{}  lent bytes {}\n",
+            "write a sheet\n{}  lent bytes {}, then {}\n",
             graph(case.n, &case.starts, &case.columns),
+            case.degrees,
             case.text,
         ),
     }

@@ -3,13 +3,31 @@
 use crate::generate::Lists;
 use crate::generate::cases::{Case, DecodeCase, WriteCase};
 use crate::generate::graphs::without_idle_variables;
-use crate::interface::{LentLengths, Settings, f32_bytes, f32_list, number_bytes, numbers};
+use crate::interface::{
+    LentLengths, NUMBER_BYTES, Settings, f32_bytes, f32_list, number_bytes, numbers,
+};
 use crate::paper::Limits;
 use std::ops::Range;
 use std::time::{Duration, Instant};
 
 /// Shrinking ends after this time with what it has.
 pub const LONGEST: Duration = Duration::from_secs(20);
+
+/// Whether an input fails, asked until the time is over.
+struct Question<F> {
+    begun: Instant,
+    fails: F,
+}
+
+impl<F: Fn(&Case) -> bool> Question<F> {
+    fn is_over(&self) -> bool {
+        self.begun.elapsed() >= LONGEST
+    }
+
+    fn fails(&self, case: &Case) -> bool {
+        !self.is_over() && (self.fails)(case)
+    }
+}
 
 /// What an input has many of. A cut takes some of them out, or makes them plain.
 #[derive(Clone, Copy)]
@@ -39,29 +57,34 @@ const DIMENSIONS: [Dimension; 9] = [
 
 /// Cuts in every dimension, large ones first, until no cut leaves a failing input.
 pub fn shrink(mut case: Case, fails: impl Fn(&Case) -> bool) -> Case {
-    let begun = Instant::now();
-    let still_fails = |candidate: &Case| begun.elapsed() < LONGEST && fails(candidate);
+    let question = Question { begun: Instant::now(), fails };
     let mut changed = true;
     while changed {
         changed = false;
         for dimension in DIMENSIONS {
-            changed |= sweep(&mut case, dimension, &still_fails);
+            changed |= sweep(&mut case, dimension, &question);
         }
     }
     case
 }
 
-fn sweep(case: &mut Case, dimension: Dimension, fails: &impl Fn(&Case) -> bool) -> bool {
+fn sweep<F: Fn(&Case) -> bool>(
+    case: &mut Case,
+    dimension: Dimension,
+    question: &Question<F>,
+) -> bool {
     let mut changed = false;
-    let mut size = extent(case, dimension).div_ceil(2);
-    while size > 0 {
+    let mut all = extent(case, dimension);
+    let mut size = all.div_ceil(2);
+    while size > 0 && !question.is_over() {
         let mut start = 0;
-        while start < extent(case, dimension) {
-            let end = (start + size).min(extent(case, dimension));
-            match cut(case, dimension, start..end).filter(fails) {
+        while start < all && !question.is_over() {
+            let end = (start + size).min(all);
+            match cut(case, dimension, start..end).filter(|smaller| question.fails(smaller)) {
                 Some(smaller) => {
                     *case = smaller;
                     changed = true;
+                    all = extent(case, dimension);
                 }
                 None => start = end,
             }
@@ -97,7 +120,7 @@ fn extent(case: &Case, dimension: Dimension) -> usize {
         Dimension::Bytes => text_of(case).len(),
         Dimension::Settings => plainer_settings(case).len(),
         Dimension::Values => values_of(case).len(),
-        Dimension::Buffers => 1,
+        Dimension::Buffers => 2,
         Dimension::Starts => lists.map_or(0, |lists| lists.starts.len()),
         Dimension::Columns => lists.map_or(0, |lists| lists.columns.len()),
         Dimension::Checks => lists.filter(has_rows).map_or(0, |lists| lists.starts.len() - 1),
@@ -112,7 +135,7 @@ fn cut(case: &Case, dimension: Dimension, part: Range<usize>) -> Option<Case> {
         Dimension::Bytes => Some(with_text(case, without(text_of(case), &part))),
         Dimension::Settings => Some(with_settings(case, plainer_settings(case)[part.start])),
         Dimension::Values => with_plainer_values(case, part),
-        Dimension::Buffers => with_exact_buffers(case),
+        Dimension::Buffers => with_exact_buffers(case, part),
         Dimension::Starts => {
             let lists = lists_of(case)?;
             let starts = without(&lists.starts, &part);
@@ -200,16 +223,19 @@ fn has_rows(lists: &Lists) -> bool {
 }
 
 /// The case on other lists, with the values and word of the variables that were kept, and
-/// decode's buffers as much too long or short as before.
+/// the list of degrees and decode's buffers as much too long or short as before.
 fn on_lists(case: &Case, lists: &Lists, kept: Option<&[usize]>) -> Case {
     let (starts, columns) = (number_bytes(&lists.starts), number_bytes(&lists.columns));
+    let moved = |length: usize, before: usize, after: usize| {
+        length.saturating_add(after).saturating_sub(before)
+    };
     let mut case = with_decode(case, |decode| {
         let (before, after) = (needed(decode), LentLengths::needed(lists.n, lists.columns.len()));
         let mut lent = decode.lent.as_array();
         for (index, length) in lent.iter_mut().enumerate() {
-            let (before, after) = (before.as_array()[index], after.as_array()[index]);
-            *length = length.saturating_add(after).saturating_sub(before);
+            *length = moved(*length, before.as_array()[index], after.as_array()[index]);
         }
+        decode.degrees = moved(decode.degrees, exact_degrees(decode.n), exact_degrees(lists.n));
         decode.n = lists.n;
         decode.starts = starts.clone();
         decode.columns = columns.clone();
@@ -225,6 +251,7 @@ fn on_lists(case: &Case, lists: &Lists, kept: Option<&[usize]>) -> Case {
             }
         }
         Case::Write(write) => {
+            write.degrees = moved(write.degrees, exact_degrees(write.n), exact_degrees(lists.n));
             (write.n, write.starts, write.columns) = (lists.n, starts, columns);
         }
         Case::Decode(_) | Case::Read(_) => {}
@@ -240,10 +267,19 @@ fn kept_of<T: Copy>(list: &[T], kept: &[usize]) -> Vec<T> {
     kept.iter().filter_map(|&index| list.get(index).copied()).collect()
 }
 
-fn with_exact_buffers(case: &Case) -> Option<Case> {
-    let decode = decode_of(case)?;
-    let exact = needed(decode);
-    (decode.lent != exact).then(|| with_decode(case, |decode| decode.lent = exact))
+fn exact_degrees(n: usize) -> usize {
+    NUMBER_BYTES.saturating_mul(n)
+}
+
+/// Decode's buffers of just the lengths that are needed, then its list of degrees.
+fn with_exact_buffers(case: &Case, part: Range<usize>) -> Option<Case> {
+    let decode = decode_of(case).filter(|decode| decode.n <= Limits::LENT.variables)?;
+    let exact = match part.start {
+        0 => DecodeCase { lent: needed(decode), ..decode.clone() },
+        _ => DecodeCase { degrees: exact_degrees(decode.n), ..decode.clone() },
+    };
+    let changed = (exact.lent, exact.degrees) != (decode.lent, decode.degrees);
+    changed.then(|| with_decode(case, |decode| *decode = exact.clone()))
 }
 
 fn values_of(case: &Case) -> Vec<f32> {

@@ -4,13 +4,14 @@
 use super::series::Seen;
 use crate::generate::cases::{DecodeCase, TwinCase};
 use crate::interface::{
-    Answer, DecodeInput, Decoded, Decoder, GraphBytes, Lent, Settings, numbers,
+    Answer, DecodeInput, Decoded, Decoder, GraphBytes, Lent, Settings, number_bytes, numbers,
 };
 use crate::paper::{Graph, Limits, count_odd_checks};
 
 /// What a run reports and leaves behind.
 struct Run {
     decoded: Decoded,
+    degrees: Vec<u8>,
     levels: Vec<u8>,
     variable_messages: Vec<u8>,
     check_messages: Vec<u8>,
@@ -23,18 +24,20 @@ pub fn check_twin(case: &TwinCase, decoder: &dyn Decoder) -> Result<Seen, String
     let (starts, columns) = (numbers(&decode.starts), numbers(&decode.columns));
     let graph = Graph { n: decode.n, starts: &starts, columns: &columns };
     let seen = |call| Ok(Seen { call, refusal: 0, iterations: None });
-    let Ok(odd_checks) = count_odd_checks(Limits::LENT, &graph, &case.word) else {
+    let degrees = &mut numbers(&lent_bytes(decode.degrees));
+    let Ok(odd_checks) = count_odd_checks(Limits::LENT, &graph, &case.word, degrees) else {
         return seen("no twin");
     };
+    let degrees = &number_bytes(degrees);
     if odd_checks == 0 {
-        let (run, twin) = twin_runs(decode.settings.limit, case, decoder)?;
+        let (run, twin) = twin_runs(decode.settings.limit, case, degrees, decoder)?;
         mirrors(&run, &twin, &case.word, &columns)?;
         return seen("twin");
     }
     // A check that is odd in the word turns its messages the other way in iteration 1,
     // unless one of the runs has stopped before.
     for limit in 0..=1 {
-        let (run, twin) = twin_runs(limit, case, decoder)?;
+        let (run, twin) = twin_runs(limit, case, degrees, decoder)?;
         if mirrors(&run, &twin, &case.word, &columns).is_err() {
             return seen("twin by no codeword");
         }
@@ -42,16 +45,33 @@ pub fn check_twin(case: &TwinCase, decoder: &dyn Decoder) -> Result<Seen, String
     Err("the run is mirrored by a word that is no codeword".to_string())
 }
 
-/// The run on the values, and the run on the values negated where the word is 1.
-fn twin_runs(limit: u32, case: &TwinCase, decoder: &dyn Decoder) -> Result<(Run, Run), String> {
+/// The run on the values, and the run on the values negated where the word is 1. Both count
+/// the same degrees.
+fn twin_runs(
+    limit: u32,
+    case: &TwinCase,
+    degrees: &[u8],
+    decoder: &dyn Decoder,
+) -> Result<(Run, Run), String> {
     let settings = Settings { limit, ..case.decode.settings };
     let values = &case.decode.values;
     let mut negated = values.clone();
     for (value, &bit) in negated.chunks_exact_mut(4).zip(&case.word) {
         value[3] ^= bit << 7;
     }
-    let run_on = |values: &[u8]| run(&case.decode, values, settings, decoder);
+    let run_on = |values: &[u8]| {
+        let run = run(&case.decode, values, settings, decoder)?;
+        match run.degrees.starts_with(degrees) {
+            true => Ok(run),
+            false => Err("a twin run leaves other degrees".to_string()),
+        }
+    };
     Ok((run_on(values)?, run_on(&negated)?))
+}
+
+/// The bytes of a buffer before it is lent.
+fn lent_bytes(length: usize) -> Vec<u8> {
+    vec![0x55; length]
 }
 
 fn run(
@@ -61,10 +81,12 @@ fn run(
     decoder: &dyn Decoder,
 ) -> Result<Run, String> {
     let [mut levels, mut variable_messages, mut check_messages, mut sums, mut bits] =
-        case.lent.as_array().map(|length| vec![0x55; length]);
+        case.lent.as_array().map(lent_bytes);
+    let mut degrees = lent_bytes(case.degrees);
     let graph = GraphBytes { n: case.n, starts: &case.starts, columns: &case.columns };
     let answer = decoder.decode(
         &DecodeInput { graph, values, settings },
+        &mut degrees,
         &mut Lent {
             levels: &mut levels,
             variable_messages: &mut variable_messages,
@@ -75,7 +97,7 @@ fn run(
     );
     match answer {
         Answer::Accepted(decoded) => {
-            Ok(Run { decoded, levels, variable_messages, check_messages, sums, bits })
+            Ok(Run { decoded, degrees, levels, variable_messages, check_messages, sums, bits })
         }
         other => Err(format!("a twin run is answered {other:?}")),
     }

@@ -4,7 +4,7 @@ use super::limits::{CHECK_DEGREES, Limits, VARIABLE_DEGREES};
 use super::{Refusal, refuse};
 use std::ops::Range;
 
-/// "m+1 row starts, and E columns in check order", as numbers of whatever width.
+/// "m+1 row starts, and E columns in check order".
 #[derive(Clone, Copy, Debug)]
 pub struct Graph<'a> {
     pub n: usize,
@@ -41,13 +41,16 @@ impl<'a> Graph<'a> {
     }
 }
 
-/// "Each looked for over the whole input before the next."
-pub fn check_graph(limits: Limits, graph: &Graph) -> Result<(), Refusal> {
+/// "Each looked for over the whole input before the next." The list of degrees is lent: it
+/// "holds the degrees after every call that came as far as 5, refused or not, and is
+/// unchanged otherwise".
+pub fn check_graph(limits: Limits, graph: &Graph, degrees: &mut [u32]) -> Result<(), Refusal> {
     check_counts(limits, graph)?;
     check_starts(graph)?;
     check_columns_below_n(graph)?;
     check_columns_rising(graph)?;
-    check_degrees(graph)
+    count_degrees(graph, degrees)?;
+    check_degrees(graph, degrees)
 }
 
 fn check_counts(limits: Limits, graph: &Graph) -> Result<(), Refusal> {
@@ -91,15 +94,27 @@ fn check_columns_rising(graph: &Graph) -> Result<(), Refusal> {
     Ok(())
 }
 
+/// "Variable degrees are counted in a further lent list of n 32-bit numbers, and a shorter
+/// one gets 6 directly before 5."
+fn count_degrees(graph: &Graph, degrees: &mut [u32]) -> Result<(), Refusal> {
+    let Some(degrees) = degrees.get_mut(..graph.n) else {
+        return refuse(6, 0);
+    };
+    degrees.fill(0);
+    for &variable in graph.columns {
+        degrees[variable as usize] += 1;
+    }
+    Ok(())
+}
+
 /// "A degree outside its limits (lowest check, else m + lowest variable)."
-fn check_degrees(graph: &Graph) -> Result<(), Refusal> {
+fn check_degrees(graph: &Graph, degrees: &[u32]) -> Result<(), Refusal> {
     let bad_check = |row: Range<usize>| !CHECK_DEGREES.contains(&row.len());
     if let Some(check) = graph.rows().position(bad_check) {
         return refuse(5, check);
     }
-    let bad_variable = |entries: Vec<usize>| !VARIABLE_DEGREES.contains(&entries.len());
-    let mut variables = graph.entries_of_variables().into_iter();
-    match variables.position(bad_variable) {
+    let bad_variable = |&degree: &u32| !VARIABLE_DEGREES.contains(&degree);
+    match degrees[..graph.n].iter().position(bad_variable) {
         Some(variable) => refuse(5, graph.m() + variable),
         None => Ok(()),
     }
@@ -110,16 +125,22 @@ pub fn row_of_check<'a>(
     limits: Limits,
     graph: &Graph<'a>,
     check: usize,
+    degrees: &mut [u32],
 ) -> Result<&'a [u32], Refusal> {
-    check_graph(limits, graph)?;
+    check_graph(limits, graph, degrees)?;
     if check >= graph.m() {
         return refuse(3, check);
     }
     Ok(&graph.columns[graph.row(check)])
 }
 
-pub fn count_odd_checks(limits: Limits, graph: &Graph, bits: &[u8]) -> Result<usize, Refusal> {
-    check_graph(limits, graph)?;
+pub fn count_odd_checks(
+    limits: Limits,
+    graph: &Graph,
+    bits: &[u8],
+    degrees: &mut [u32],
+) -> Result<usize, Refusal> {
+    check_graph(limits, graph, degrees)?;
     if bits.len() != graph.n {
         return refuse(13, 0);
     }

@@ -5,7 +5,7 @@ use std::ops::RangeInclusive;
 pub const LEAST_VARIABLES: usize = 2;
 pub const LEAST_CHECKS: usize = 1;
 pub const CHECK_DEGREES: RangeInclusive<usize> = 2..=64;
-pub const VARIABLE_DEGREES: RangeInclusive<usize> = 1..=32;
+pub const VARIABLE_DEGREES: RangeInclusive<u32> = 1..=32;
 
 /// The largest counts of a graph that a call admits.
 #[derive(Clone, Copy, Debug, PartialEq, Eq)]
@@ -17,9 +17,9 @@ pub struct Limits {
 
 impl Limits {
     /// Those of lent graphs and of sheets.
-    pub const LENT: Limits = Limits { variables: 8_192, checks: 8_192, entries: 32_768 };
+    pub const LENT: Limits = Limits { variables: 1_000_000, checks: 1_000_000, entries: 4_000_000 };
 
-    /// Those of the program.
+    /// Those of the program: "the program keeps its file sizes and the old limits".
     pub const PROGRAM: Limits = Limits { variables: 8_192, checks: 8_192, entries: 32_768 };
 
     pub fn admit_variables(&self, n: usize) -> bool {

@@ -29,13 +29,14 @@ fn decoded(code: &[u8], run_text: &[u8]) -> Result<Outcome, Refusal> {
     if code.len() > MOST_BYTES {
         return refuse(2, 0);
     }
-    let sheet = read_sheet(Limits::PROGRAM, code, usize::MAX, usize::MAX)?;
+    let degrees = &mut vec![0; Limits::PROGRAM.variables];
+    let sheet = read_sheet(Limits::PROGRAM, code, degrees, usize::MAX, usize::MAX)?;
     if run_text.len() > MOST_BYTES {
         return refuse(14, 0);
     }
     let (settings, values) = read_run_text(run_text, &sheet)?;
     let lent = LentLengths::needed(sheet.n, sheet.columns.len());
-    decode(Limits::PROGRAM, &sheet.graph(), &values, &settings, &lent)
+    decode(Limits::PROGRAM, &sheet.graph(), &values, &settings, degrees, &lent)
 }
 
 /// 14, "the first line that is of other form, missing, extra or without LF (its line)".

@@ -37,9 +37,10 @@ pub fn decode(
     graph: &Graph,
     values: &[f32],
     settings: &Settings,
+    degrees: &mut [u32],
     lent: &LentLengths,
 ) -> Result<Outcome, Refusal> {
-    check_graph(limits, graph)?;
+    check_graph(limits, graph, degrees)?;
     if values.len() != graph.n {
         return refuse(13, values.len());
     }

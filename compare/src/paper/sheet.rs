@@ -24,11 +24,12 @@ impl Sheet {
     }
 }
 
-/// "Top line first, place the line counted from 1"; then 5, then 6 for the two lent
-/// lists, whose lengths are in bytes.
+/// "Top line first, place the line counted from 1"; then the list of degrees, 5, and 6 for
+/// the two lent lists, whose lengths are in bytes.
 pub fn read_sheet(
     limits: Limits,
     bytes: &[u8],
+    degrees: &mut [u32],
     starts_lent: usize,
     columns_lent: usize,
 ) -> Result<Sheet, Refusal> {
@@ -37,7 +38,7 @@ pub fn read_sheet(
     let (n, m) = counts(limits, &text, 2)?;
     check_header(&text, 3, ENTRIES_HEADER)?;
     let sheet = graph_of(n, m, &entries(limits, &text, n, m)?);
-    check_graph(limits, &sheet.graph())?;
+    check_graph(limits, &sheet.graph(), degrees)?;
     let too_short = |lent: usize, list: &[u32]| lent < NUMBER_BYTES * list.len();
     if too_short(starts_lent, &sheet.starts) || too_short(columns_lent, &sheet.columns) {
         return refuse(6, 0);
@@ -103,8 +104,13 @@ fn graph_of(n: usize, m: usize, entries: &[(usize, usize)]) -> Sheet {
 }
 
 /// "The writer gives this text and its length"; 6 when the lent text is shorter.
-pub fn write_sheet(limits: Limits, graph: &Graph, text_lent: usize) -> Result<Vec<u8>, Refusal> {
-    check_graph(limits, graph)?;
+pub fn write_sheet(
+    limits: Limits,
+    graph: &Graph,
+    degrees: &mut [u32],
+    text_lent: usize,
+) -> Result<Vec<u8>, Refusal> {
+    check_graph(limits, graph, degrees)?;
     let mut text = Vec::new();
     push_line(&mut text, COUNTS_HEADER);
     push_line(&mut text, format!("{} {}", graph.n, graph.m()).as_bytes());

@@ -37,6 +37,11 @@ pub fn example_settings() -> Settings {
     }
 }
 
+/// A list of degrees that is long enough for a graph of so many variables, if any is.
+pub fn degrees_of(n: usize) -> Vec<u32> {
+    vec![0; n.min(Limits::LENT.variables)]
+}
+
 /// Decode with buffers long enough for any admitted graph.
 pub fn decode_freely(
     graph: &Graph,
@@ -44,7 +49,8 @@ pub fn decode_freely(
     settings: &Settings,
 ) -> Result<Outcome, Refusal> {
     let limits = Limits::LENT;
-    decode(limits, graph, values, settings, &LentLengths::needed(limits.variables, limits.entries))
+    let lent = LentLengths::needed(limits.variables, limits.entries);
+    decode(limits, graph, values, settings, &mut degrees_of(graph.n), &lent)
 }
 
 pub fn lines(lines: &[&str]) -> Vec<u8> {

@@ -17,7 +17,7 @@ use Rattle.rules.proofs.Judging.{and-left, and-right, orElse-left, orElse-right
 use Rattle.rules.specs.declared.Report.{Report}
 use Rattle.graph.specs.Judging.{graphJudged, graphJudgedIn}
 use Rattle.graph.specs.Degrees as Lent
-use Rattle.graph.proofs.Lending as Lending
+use Rattle.graph.proofs.Wider.{found-before}
 use Rattle.graph.proofs.Lending.{lent-admitted, lent-counted}
 use Rattle.channel.specs.declared.Settings.{Settings}
 use Rattle.channel.specs.declared.Checked.{Checked}
@@ -26,9 +26,8 @@ use Rattle.channel.specs.Settings.{settings, settingsJudged, checked, settingsO
 use Rattle.channel.proofs.Accepted.{good-settings}
 use Rattle.channel.specs.Values.{valuesJudged}
 use Rattle.decoder.specs.declared.Room.{Room}
-use Rattle.decoder.specs.Decoding.{Frame, Memory, roomOf, graph, enough, askedJudged, frameJudged, decodeJudged, frameJudgedIn, decodeJudgedIn, decoded, memoryAfter, Decodes, Accepts, DecodesInto, LentAlike}
+use Rattle.decoder.specs.Decoding.{Frame, Memory, roomOf, graph, enough, askedJudged, frameJudged, decodeJudged, decodeFinds, decoded, memoryAfter, Accepts, Decodes, AsBefore}
 use Rattle.decoder.specs.Steps.{Degrees, Ready}
-use Rattle.decoder.specs.declared.Decoded.{Decoded}
 use Rattle.decoder.specs.declared.Decoded.the-variants as Answers
 use Rattle.decoder.proofs.Beginning.{RunsInto, counted-degrees}
 
@@ -45,43 +44,38 @@ module _ (F : Frame) where
     pub values-judged : {j : Judged} → settingsJudged (F .asked) ≡ Admitted → valuesJudged (F .values) ≡ j → askedJudged F ≡ j
     values-judged c d = rw (eq-eqb (length (F .values) / 4) (F .variables) l, c, d)
 
-  pub frame-asked : {j : Judged} → graphJudged limits (graph F) ≡ Admitted → askedJudged F ≡ j → frameJudged F ≡ j
+-- where g is found of the graph, up to the memory
+module _ (F : Frame) (g : Judged) where
+  pub frame-asked : {j : Judged} → g ≡ Admitted → askedJudged F ≡ j → frameJudged F g ≡ j
   unfolding frameJudged
   frame-asked a h = rw (a, h)
 
--- the same where a list of d bytes is lent for the degrees, up to the memory
-module _ (F : Frame) (d : ℕ) where
-  pub frame-asked-in : {j : Judged} → graphJudgedIn limits (graph F) d ≡ Admitted → askedJudged F ≡ j → frameJudgedIn F d ≡ j
-  unfolding frameJudgedIn
-  frame-asked-in a h = rw (a, h)
-
   module _ (m : Room) where
-    pub graph-refused : {r : Refusal} → graphJudgedIn limits (graph F) d ≡ Refused r → decodeJudgedIn F d m ≡ Refused r
-    unfolding frameJudgedIn decodeJudgedIn
+    pub graph-refused : {r : Refusal} → g ≡ Refused r → decodeJudged F g m ≡ Refused r
+    unfolding frameJudged decodeJudged
     graph-refused a = rw a
 
-    pub frame-refused : {r : Refusal} → frameJudgedIn F d ≡ Refused r → decodeJudgedIn F d m ≡ Refused r
-    unfolding decodeJudgedIn
+    pub frame-refused : {r : Refusal} → frameJudged F g ≡ Refused r → decodeJudged F g m ≡ Refused r
+    unfolding decodeJudged
     frame-refused a = rw a
 
-    module _ (a : frameJudgedIn F d ≡ Admitted) where
-      pub memory-refused : enough (F .variables) (graph F .entries) m ≡ false → decodeJudgedIn F d m ≡ Refused Buffer
-      unfolding decodeJudgedIn
+    module _ (a : frameJudged F g ≡ Admitted) where
+      pub memory-refused : enough (F .variables) (graph F .entries) m ≡ false → decodeJudged F g m ≡ Refused Buffer
+      unfolding decodeJudged
       memory-refused b = rw (a, b)
 
-      pub all-admitted : enough (F .variables) (graph F .entries) m ≡ true → decodeJudgedIn F d m ≡ Admitted
-      unfolding decodeJudgedIn
+      pub all-admitted : enough (F .variables) (graph F .entries) m ≡ true → decodeJudged F g m ≡ Admitted
+      unfolding decodeJudged
       all-admitted b = rw (a, b)
 
 -- the answer of `accept`, once its judgement j is known; the list is as the check of the graph left it
 pub accepts-as : (F : Frame) (m : Room) {r : Judged} {old now : List ℕ} {j : Judged} {a : Checked} → Lent.Checks limits (graph F) r old now
-    → decodeJudgedIn F (length old) m ≡ j → a ≡ checked j (settings (F .asked)) → Accepts F m a old now
+    → decodeFinds F (length old) m ≡ j → a ≡ checked j (settings (F .asked)) → Accepts F m a old now
 accepts-as F m k h q = record { answer = q ∙ ap (λ j. checked j (settings (F .asked))) (sym h); degrees = k .degrees }
 
--- a list for the most variables changes no answer
-pub lent-alike : (F : Frame) (d : ℕ) → 4 * limits .variables ≤ d → LentAlike F d
-unfolding frameJudged decodeJudged frameJudgedIn decodeJudgedIn
-lent-alike F d l = record { frame = rw (Lending.lent-alike limits (graph F) d l); decode = λ m. rw (Lending.lent-alike limits (graph F) d l) }
+-- on graphs within the old limits nothing else is found than before
+pub as-before : AsBefore
+as-before F d m o = ap (λ g. decodeJudged F g m) (found-before (graph F) d o)
 
 -- what the answer of the settings' check tells
 pub checked-refused : (j : Judged) (s : Settings) {r : Refusal} → checked j s ≡ Checks.Refused r → j ≡ Refused r
@@ -135,18 +129,19 @@ asked-told F h = (
     others : Judged
     others = orElse s v
 
-pub frame-told : (F : Frame) → frameJudged F ≡ Admitted → Told F
+pub frame-told : (F : Frame) → frameJudged F (graphJudged limits (graph F)) ≡ Admitted → Told F
 unfolding frameJudged
 frame-told F h =
     let a = asked-told F (orElse-right (graphJudged limits (graph F)) (askedJudged F) h) in
     record { graph = orElse-left (graphJudged limits (graph F)) (askedJudged F) h; count = a .0; settings = a .1; values = a .2 }
 
-pub memory-told : (F : Frame) (m : Room) → decodeJudged F m ≡ Admitted → (frameJudged F ≡ Admitted) × (enough (F .variables) (graph F .entries) m ≡ true)
+pub memory-told : (F : Frame) (g : Judged) (m : Room) → decodeJudged F g m ≡ Admitted → (frameJudged F g ≡ Admitted) × (enough (F .variables) (graph F .entries) m ≡ true)
 unfolding decodeJudged
-memory-told F m h = (
-  orElse-left (frameJudged F) (unless (enough (F .variables) (graph F .entries) m) Buffer) h,
-  unless-true (enough (F .variables) (graph F .entries) m) Buffer (orElse-right (frameJudged F) (unless (enough (F .variables) (graph F .entries) m) Buffer) h),
-)
+memory-told F g m h =
+    let room = unless (enough (F .variables) (graph F .entries) m) Buffer in (
+      orElse-left (frameJudged F g) room h,
+      unless-true (enough (F .variables) (graph F .entries) m) Buffer (orElse-right (frameJudged F g) room h),
+    )
 
 -- ---- the answers of decode, from what `accept` answers
 
@@ -156,9 +151,9 @@ checked-same (Refused x) s h = let z : _≡_ {A = ℕ} 0 1 = cc in absurd (omega
 
 module _ (F : Frame) (M : Memory) {d d′ : List ℕ} {a : Checked} (accepts : Accepts F (roomOf M) a d d′) where
   abbrev judgement : Judged
-  judgement = decodeJudgedIn F (length d) (roomOf M)
+  judgement = decodeFinds F (length d) (roomOf M)
 
-  pub decodes-refused : {r : Refusal} → a ≡ Checks.Refused r → DecodesInto F M M d d′ (Answers.Refused r)
+  pub decodes-refused : {r : Refusal} → a ≡ Checks.Refused r → Decodes F M M d d′ (Answers.Refused r)
   decodes-refused {r} e = record { answer = sym (ap (decoded F) h); memory = sym (ap (λ j. memoryAfter F j M) h); degrees = accepts .degrees }
     where
       h : judgement ≡ Refused r
@@ -171,37 +166,33 @@ module _ (F : Frame) (M : Memory) {d d′ : List ℕ} {a : Checked} (accepts : A
     same : settings (F .asked) ≡ s
     same = checked-same judgement (settings (F .asked)) (sym (accepts .answer) ∙ e)
 
-    framed : frameJudgedIn F (length d) ≡ Admitted
-    unfolding decodeJudgedIn
-    framed = orElse-left (frameJudgedIn F (length d)) (unless (enough (F .variables) (graph F .entries) (roomOf M)) Buffer) admitted
+    told : (frameJudged F (graphJudgedIn limits (graph F) (length d)) ≡ Admitted) × (enough (F .variables) (graph F .entries) (roomOf M) ≡ true)
+    told = memory-told F (graphJudgedIn limits (graph F) (length d)) (roomOf M) admitted
 
     graphed : graphJudgedIn limits (graph F) (length d) ≡ Admitted
-    unfolding frameJudgedIn
-    graphed = orElse-left (graphJudgedIn limits (graph F) (length d)) (askedJudged F) framed
+    unfolding frameJudged
+    graphed = orElse-left (graphJudgedIn limits (graph F) (length d)) (askedJudged F) (told .0)
 
     -- what the run asks
     pub decode-ready : Ready s (graph F) (F .values)
-    unfolding frameJudgedIn settingsOf
+    unfolding frameJudged settingsOf
     decode-ready =
-        let told = asked-told F (orElse-right (graphJudgedIn limits (graph F) (length d)) (askedJudged F) framed) in
+        let asked = asked-told F (orElse-right (graphJudgedIn limits (graph F) (length d)) (askedJudged F) (told .0)) in
         subst (λ t. Ready t (graph F) (F .values)) same (record {
-          settings = good-settings (F .asked) (settings (F .asked)) (ap (λ j. checked j (settings (F .asked))) (told .1)) .1;
+          settings = good-settings (F .asked) (settings (F .asked)) (ap (λ j. checked j (settings (F .asked))) (asked .1)) .1;
           admitted = lent-admitted (graph F) (length d) graphed;
-          count = told .0;
-          finite = told .2;
+          count = asked .0;
+          finite = asked .2;
         })
 
     pub decode-room : enough (F .variables) (graph F .entries) (roomOf M) ≡ true
-    unfolding decodeJudgedIn
-    decode-room =
-        unless-true (enough (F .variables) (graph F .entries) (roomOf M)) Buffer
-        (orElse-right (frameJudgedIn F (length d)) (unless (enough (F .variables) (graph F .entries) (roomOf M)) Buffer) admitted)
+    decode-room = told .1
 
     pub decode-degrees : Degrees (graph F) d′
     decode-degrees =
         counted-degrees (graph F) _ (lent-admitted (graph F) (length d) graphed) (lent-counted limits (graph F) (length d) d graphed (accepts .degrees))
 
-    pub decodes-ran : {M′ : Memory} {r : Report} → RunsInto s (graph F) (F .values) r M M′ → DecodesInto F M M′ d d′ (Answers.Ran r)
+    pub decodes-ran : {M′ : Memory} {r : Report} → RunsInto s (graph F) (F .values) r M M′ → Decodes F M M′ d d′ (Answers.Ran r)
     decodes-ran {M′} {r} w = record {
       answer = ap Answers.Ran (run .report) ∙ sym (ap (decoded F) admitted);
       memory = run .memory ∙ sym (ap (λ j. memoryAfter F j M) admitted);
@@ -210,9 +201,3 @@ module _ (F : Frame) (M : Memory) {d d′ : List ℕ} {a : Checked} (accepts : A
       where
         run : RunsInto (settings (F .asked)) (graph F) (F .values) r M M′
         run = subst (λ t. RunsInto t (graph F) (F .values) r M M′) (sym same) w
-
--- lent a list for the most variables, decode answers as it does without one
-pub decodes-alike : (F : Frame) (M : Memory) {M′ : Memory} {d d′ : List ℕ} {r : Decoded} → 4 * limits .variables ≤ length d → DecodesInto F M M′ d d′ r → Decodes F M M′ r
-decodes-alike F M {M′} {d} {d′} {r} l w =
-    let e = lent-alike F (length d) l .decode (roomOf M) in
-    record { answer = w .answer ∙ ap (decoded F) e; memory = w .memory ∙ ap (λ j. memoryAfter F j M) e }

@@ -1,20 +1,20 @@
 -- The memory holds the state of the iteration, from one iteration to the next, and the run stops where the rules say.
 use mathlib.Core.Path.{_≡_, refl, sym, ap, ap₂, _∙_, fun-ext, subst}
-use mathlib.Core.Bool.{Bool, true, false, not, cond, _||_, true≢false}
+use mathlib.Core.Bool.{Bool, true, false, not, cond, _&&_, _||_, true≢false}
 use mathlib.Core.List.{List, map}
-use Prim.Native.Nat.{ℕ, zero, suc, _+_, _*_, _^_, _≤_, _<_}
+use Prim.Native.Nat.{ℕ, zero, suc, _+_, _-_, _*_, _^_, _≤_, _<_}
 use native.Mathlib.Decide.{decLt}
 use native.Mathlib.Nat.{mul-le-mul-right}
 use native.Mathlib.Numerals.{add-one}
 use native.Mathlib.Omega.{arith}
-use borrow.Author.Tests.{ne-eqb, lt-leb, leb-false}
+use borrow.Author.Tests.{eqb-false, ne-eqb, lt-leb, leb-false}
 use lib.Dec.{eqb, leb}
 use lib.IntN.{ℤ, pos, natAbs, _+ℤ_, _-ℤ_}
 use lib.ListN.{length, getD, List·getD-map, List·getD-eq-default}
 use mir.Syntax.{w32}
 use mir.Val.{ofZ}
 use Rattle.rules.specs.Ranges.{fold, one, tabulate}
-use Rattle.rules.specs.Levels.{Level, byte, levelOf, plusZero, largest}
+use Rattle.rules.specs.Levels.{Level, byte, levelOf, plusZero}
 use Rattle.rules.specs.Graphs.{Graph, limits, Admitted, variableDegree, unsatisfied}
 use Rattle.rules.specs.Nodes.{Offsets, fromCheck, contribution, channelPart, share, posterior, bitOf, outgoing, fromVariable}
 use Rattle.rules.specs.Sequence.{Scheme, signPreserving, levelAt, bitAt, begun, sentIn, sent, iterated, next, state, unsatisfiedIn, stop, final, report}
@@ -26,7 +26,6 @@ use Rattle.rules.proofs.Parity.{outgoing-is-rest}
 use Rattle.rules.proofs.Bounds.{messages-within, sums-bounded}
 use Rattle.words.specs.Roles.{sumAt, bitOfByte}
 use Rattle.words.proofs.Words.{table-ext}
-use Rattle.rules.proofs.Own.{largest-within}
 use Rattle.nodes.specs.Memory.{levelIn}
 use Rattle.nodes.specs.Lists.{Parts, shareIn, sentBy}
 use Rattle.nodes.proofs.Leaves.{magnitude-small}
@@ -110,13 +109,13 @@ module _ (G : Graph) (ok : Admitted G) (Nq : ℕ) (φ : Offsets) (small : Nq < 8
     sum-small v l = omega (arith, ap natAbs (sum-is v l), sums-small t v l)
 
   -- the lists of the run
-  module _ {parts : List ℤ} {messages : List ℕ} (lists : Lists Nq φ parts messages) where
+  module _ {parts : List ℤ} {messages : List ℕ} where
     -- what is sent at an entry
-    sent-at : (t : ℕ) {q C S b : List ℕ} → Holds G (state G R (suc t)) q C S b → (e : ℕ) → e < G .entries
+    sent-at : (t : ℕ) {q C S b : List ℕ} → Lists Nq φ (suc t) parts messages → Holds G (state G R (suc t)) q C S b → (e : ℕ) → e < G .entries
         → sentBy parts messages (G .column) S C e ≡ byte (fromVariable G Nq φ (levelIn y) (levelAt (state G R (suc t) .checkMessages)) e)
     unfolding signPreserving state next iterated fromVariable
-    sent-at t {q} {C} {S} {b} holds e u =
-        sent-by (outgoing Nq φ) (λ b. contribution 1 (levelOf b)) (lists .outgoings) (outgoing-saturates Nq φ small) (lists .contributions) (G .column) S C e (received-byte (suc t) (holds .checkMessages) e)
+    sent-at t {q} {C} {S} {b} lists holds e u =
+        sent-by (outgoing Nq φ) (λ b. contribution 1 (levelOf b)) (lists .outgoings (omega arith)) (outgoing-saturates Nq φ small) (lists .contributions) (G .column) S C e (received-byte (suc t) (holds .checkMessages) e)
         ∙ ap (λ s. byte (outgoing Nq φ s)) (ap₂ (λ s m. s -ℤ contribution 1 m) sum level ∙ sym (outgoing-is-rest G (levelIn y) σC e u))
       where
         σC : ℕ → Level
@@ -129,42 +128,42 @@ module _ (G : Graph) (ok : Admitted G) (Nq : ℕ) (φ : Offsets) (small : Nq < 8
         level = ap (λ l. levelIn l e) (holds .checkMessages) ∙ ap (λ f. f e) (received-levels (suc t))
 
     -- the variable messages after the last step
-    sent-after : (t E : ℕ) {q C S b q₁ : List ℕ} → E ≡ G .entries → Holds G (state G R t) q C S b
+    sent-after : (t E : ℕ) {q C S b q₁ : List ℕ} → Lists Nq φ t parts messages → E ≡ G .entries → Holds G (state G R t) q C S b
         → q₁ ≡ whenSent (sends false t) q (tabulate (sentBy parts messages (G .column) S C) E)
         → q₁ ≡ map byte (sent G R (state G R t))
     unfolding signPreserving state begun next iterated sent sentIn
-    sent-after zero E k holds e = e ∙ holds .variableMessages
-    sent-after (suc t) E {q} {C} {S} {b} k holds e =
+    sent-after zero E lists k holds e = e ∙ holds .variableMessages
+    sent-after (suc t) E {q} {C} {S} {b} lists k holds e =
         e ∙ sent-later t q (tabulate (sentBy parts messages (G .column) S C) E) ∙ ap (tabulate (sentBy parts messages (G .column) S C)) k
-        ∙ tabulate-ext (sentBy parts messages (G .column) S C) (λ e. byte (f e)) (G .entries) (sent-at t holds) ∙ sym (map-tabulate byte f (G .entries))
+        ∙ tabulate-ext (sentBy parts messages (G .column) S C) (λ e. byte (f e)) (G .entries) (sent-at t lists holds) ∙ sym (map-tabulate byte f (G .entries))
       where
         f : ℕ → Level
         f = fromVariable G Nq φ (levelIn y) (levelAt (state G R (suc t) .checkMessages))
 
-    pub sent-holds : (t E : ℕ) {over done : Bool} {q C S b q₁ : List ℕ} → E ≡ G .entries → Holds G (state G R t) q C S b → over ≡ false → done ≡ sends over t
+    pub sent-holds : (t E : ℕ) {over done : Bool} {q C S b q₁ : List ℕ} → Lists Nq φ t parts messages → E ≡ G .entries → Holds G (state G R t) q C S b → over ≡ false → done ≡ sends over t
         → q₁ ≡ whenSent done q (tabulate (sentBy parts messages (G .column) S C) E)
         → q₁ ≡ map byte (sent G R (state G R t))
-    sent-holds t E k holds o d e = sent-after t E k holds (rw (d ∙ ap (λ o. sends o t) o) at e)
+    sent-holds t E lists k holds o d e = sent-after t E lists k holds (rw (d ∙ ap (λ o. sends o t) o) at e)
 
     -- the sums of an iteration
-    sum-by : (t : ℕ) {C : List ℕ} → C ≡ map byte (state G R (suc t) .checkMessages) → (v : ℕ) → v < G .variables
+    sum-by : (t : ℕ) {C : List ℕ} → Lists Nq φ t parts messages → C ≡ map byte (state G R (suc t) .checkMessages) → (v : ℕ) → v < G .variables
         → sumBy G (levelIn y) parts C v ≡ getD (state G R (suc t) .sums) v (pos 0)
     unfolding signPreserving state next iterated posterior share
-    sum-by t {C} e v u =
+    sum-by t {C} lists e v u =
         ap (λ f. channelPart G (levelIn y) v +ℤ fold _+ℤ_ (pos 0) (shareIn (G .column) f v) 0 (G .entries)) (parts-are (λ b. contribution 1 (levelOf b)) C (lists .contributions) (received-byte (suc t) e))
         ∙ ap (λ f. posterior G (levelIn y) f v) (ap levelIn e ∙ received-levels (suc t))
         ∙ sym (getD-tabulate (posterior G (levelIn y) (levelAt (state G R (suc t) .checkMessages))) (G .variables) v (pos 0) u)
 
-    pub next-holds : (t : ℕ) {q C S b : List ℕ} → q ≡ map byte (sent G R (state G R t)) → Iterates G (levelIn y) (levelIn q) parts C S b → Holds G (state G R (t + 1)) q C S b
+    pub next-holds : (t : ℕ) {q C S b : List ℕ} → Lists Nq φ t parts messages → q ≡ map byte (sent G R (state G R t)) → Iterates G (levelIn y) (levelIn q) parts C S b → Holds G (state G R (t + 1)) q C S b
     unfolding signPreserving state next iterated
-    next-holds t {q} {C} {S} {b} e it = subst (λ (k : ℕ). Holds G (state G R k) q C S b) (sym (add-one t)) (record {
+    next-holds t {q} {C} {S} {b} lists e it = subst (λ (k : ℕ). Holds G (state G R k) q C S b) (sym (add-one t)) (record {
       variableMessages = e;
       checkMessages = checks;
       sums = it .sums ∙ table-ext 4 (λ v. ofZ w32 (sumBy G (levelIn y) parts C v)) (λ v. ofZ w32 (getD (state G R (suc t) .sums) v (pos 0))) (G .variables)
-          (λ v u. ap (ofZ w32) (sum-by t checks v u));
+          (λ v u. ap (ofZ w32) (sum-by t lists checks v u));
       bits = it .bits
           ∙ tabulate-ext (λ v. one (bitOf (sumBy G (levelIn y) parts C v) (levelIn y v .minus))) (λ v. one (bitOf (getD (state G R (suc t) .sums) v (pos 0)) (levelIn y v .minus))) (G .variables)
-          (λ v u. ap (λ s. one (bitOf s (levelIn y v .minus))) (sum-by t checks v u))
+          (λ v u. ap (λ s. one (bitOf s (levelIn y v .minus))) (sum-by t lists checks v u))
           ∙ sym (map-tabulate one (λ v. bitOf (getD (state G R (suc t) .sums) v (pos 0)) (levelIn y v .minus)) (G .variables));
     })
       where
@@ -285,15 +284,29 @@ module _ {G : Graph} {R : Scheme} {limit : ℕ} {q₀ C₀ S₀ b₀ q C S b : L
 
 -- ---- the lists of a run, and what the passes ask of them
 
-pub lists-parts : {Nq : ℕ} {φ : Offsets} {parts : List ℤ} {messages : List ℕ} → Lists Nq φ parts messages → Parts parts
-lists-parts l = parts-of (λ b. contribution 1 (levelOf b)) (l .contributions) contribution-small
+module _ {Nq : ℕ} {φ : Offsets} {parts : List ℤ} where
+  pub lists-parts : {t : ℕ} {messages : List ℕ} → Lists Nq φ t parts messages → Parts parts
+  lists-parts l = parts-of (λ b. contribution 1 (levelOf b)) (l .contributions) contribution-small
 
-pub lists-messages : {Nq : ℕ} {φ : Offsets} {parts : List ℤ} {messages : List ℕ} → Lists Nq φ parts messages → length messages ≡ 35
-lists-messages {Nq} {φ} l = ap length (l .outgoings) ∙ length-tabulate (λ k. byte (outgoing Nq φ (pos k -ℤ pos 17))) 35
+  -- before anything is sent
+  pub lists-none : {messages : List ℕ} → parts ≡ tabulate (λ b. contribution 1 (levelOf b)) 256 → length messages ≡ 35 → Lists Nq φ 0 parts messages
+  lists-none e l = record { contributions = e; long = l; outgoings = λ u. absurd (omega arith) }
 
--- the largest magnitude of a message precision
-pub largest-small : (b : ℕ) → 2 ≤ b → b ≤ 4 → largest b < 8
-largest-small b l u = omega (arith, largest-within b u)
+  -- before the last step: the messages are made, or they are as after the iteration before, and this is not the first that sends
+  pub lists-made : {t k : ℕ} {messages made : List ℕ} → Lists Nq φ t parts messages → made ≡ tabulate (λ k. byte (outgoing Nq φ (pos k -ℤ pos 17))) 35 → Lists Nq φ k parts made
+  lists-made l e = record { contributions = l .contributions; long = ap length e ∙ length-tabulate (λ k. byte (outgoing Nq φ (pos k -ℤ pos 17))) 35; outgoings = λ _. e }
+
+  pub lists-kept : (over : Bool) (t : ℕ) {messages kept : List ℕ} → Lists Nq φ (t - 1) parts messages → not over && eqb t 1 ≡ false → kept ≡ messages
+      → Lists Nq φ (cond over 0 t) parts kept
+  lists-kept true t l n e = record { contributions = l .contributions; long = ap length e ∙ l .long; outgoings = λ u. absurd (omega arith) }
+  lists-kept false t l n e = record { contributions = l .contributions; long = ap length e ∙ l .long; outgoings = λ u. e ∙ l .outgoings (omega (arith, eqb-false t 1 n)) }
+
+  -- where the run is not over: at the last step, and for the next iteration
+  pub lists-now : {over : Bool} (t : ℕ) {messages : List ℕ} → over ≡ false → Lists Nq φ (cond over 0 t) parts messages → Lists Nq φ t parts messages
+  lists-now t {messages} o l = subst (λ b. Lists Nq φ (cond b 0 t) parts messages) o l
+
+  pub lists-next : (t : ℕ) {messages : List ℕ} → Lists Nq φ t parts messages → Lists Nq φ (t + 1 - 1) parts messages
+  lists-next t l = let k : t + 1 - 1 ≡ t = omega arith in rw k l
 
 -- memory of the right lengths stays so
 pub sized-again : {G : Graph} {y d q C S b q₁ C₁ S₁ b₁ : List ℕ} → Sized G y d q C S b → length q₁ ≡ length q → length C₁ ≡ length C → length S₁ ≡ length S → length b₁ ≡ length b

@@ -14,7 +14,7 @@ use Rattle.decoder.proofs.Accepting.{Told, frame-told, frame-asked, val
 
 pub demand3 : Demand3
 demand3 F bytes accepted c = record {
-  accepted = frame-asked (reversedBy c F) (told .graph)
+  accepted = frame-asked (reversedBy c F) _ (told .graph)
       (values-judged (reversedBy c F) count (told .settings) (reversed-judged c (F .values) bytes ∙ told .values));
   symmetric = symmetry (graph F) (graph-admitted (graph F) (told .graph)) (largest (F .asked .message)) (offsetsOf F) c (levels F) (levels (reversedBy c F))
       (λ v l. reversed-levels c (F .values) bytes (told .values) (largest (F .asked .channel)) (factorOf (F .asked .scaling)) v (within v l));

@@ -1,4 +1,4 @@
--- Document 01, 'Decode': what is refused, what is answered, and what the lent memory then holds.
+-- Document 01, 'Decode', and document 02, item 9: what is refused, what is answered, and what the lent memory then holds.
 use mathlib.Core.Path.{_≡_}
 use mathlib.Core.Bool.{Bool, _&&_}
 use mathlib.Core.List.{List, _++_, map}
@@ -8,7 +8,7 @@ use lib.IntN.{pos}
 use lib.ListN.{length, getD, drop}
 use Rattle.rules.specs.Ranges.{one, tabulate}
 use Rattle.rules.specs.Levels.{Level, byte, largest}
-use Rattle.rules.specs.Graphs.{Graph, limits}
+use Rattle.rules.specs.Graphs.{Graph, limits, programLimits}
 use Rattle.rules.specs.Nodes.{Offsets}
 use Rattle.rules.specs.Sequence.{Scheme, State, signPreserving, final, report}
 use Rattle.rules.specs.Refusals.{unless, orElse}
@@ -18,6 +18,7 @@ use Rattle.rules.specs.declared.Refusal.the-variants.{Length, Buffer}
 use Rattle.words.specs.Roles.{sumTable, graphOf}
 use Rattle.graph.specs.Judging.{graphJudged, countable, graphJudgedIn}
 use Rattle.graph.specs.Degrees.{degreesIn}
+use Rattle.graph.specs.Calls.{Old}
 use Rattle.channel.specs.declared.Parameters.{Parameters}
 use Rattle.channel.specs.declared.Checked.{Checked}
 use Rattle.channel.specs.Scaling.{factorOf}
@@ -35,7 +36,7 @@ pub record Frame : Type 0 where
   pub values : List ℕ
   pub asked : Parameters
 
--- The lent memory: levels, both message lists, sums and bits.
+-- The lent memory: levels, both message lists, sums and bits. (The list of degrees stands beside it.)
 pub record Memory : Type 0 where
   pub levels : List ℕ
   pub variableMessages : List ℕ
@@ -92,22 +93,19 @@ module _ (F : Frame) where
       (orElse (settingsJudged (F .asked))
       (valuesJudged (F .values)))
 
-  -- 'The graph's five', then these.
-  unfoldable pub frameJudged : Judged
-  frameJudged = orElse (graphJudged limits graph) askedJudged
+  -- 'The graph's ..', where g is what is found of the graph, then these.
+  unfoldable pub frameJudged : Judged → Judged
+  frameJudged g = orElse g askedJudged
 
   -- '6, a lent buffer too short.'
-  unfoldable pub decodeJudged : Room → Judged
-  decodeJudged m = orElse frameJudged (unless (enough (F .variables) (graph .entries) m) Buffer)
+  unfoldable pub decodeJudged : Judged → Room → Judged
+  decodeJudged g m = orElse (frameJudged g) (unless (enough (F .variables) (graph .entries) m) Buffer)
 
-  -- Both where a list of d bytes is lent for the variables' degrees.
-  unfoldable pub frameJudgedIn : ℕ → Judged
-  frameJudgedIn d = orElse (graphJudgedIn limits graph d) askedJudged
+  -- What decode finds: a list of d bytes is lent for the variables' degrees, and memory of the lengths m.
+  abbrev pub decodeFinds : ℕ → Room → Judged
+  decodeFinds d m = decodeJudged (graphJudgedIn limits graph d) m
 
-  unfoldable pub decodeJudgedIn : ℕ → Room → Judged
-  decodeJudgedIn d m = orElse (frameJudgedIn d) (unless (enough (F .variables) (graph .entries) m) Buffer)
-
-  -- The answer, and the memory afterwards: 'every refusal changes no lent byte'.
+  -- The answer, and the memory afterwards: 'every refusal changes no lent byte' of it.
   abbrev pub decoded : Judged → Decoded
   decoded Judgement.Admitted = Ran (report graph scheme (F .asked .limit))
   decoded (Judgement.Refused r) = Refused r
@@ -116,23 +114,19 @@ module _ (F : Frame) where
   memoryAfter Judgement.Admitted M = filled (F .variables) (graph .entries) levels (final graph scheme (F .asked .limit)) M
   memoryAfter (Judgement.Refused r) M = M
 
--- What decode promises of its answer r and of the memory, M before and M′ after.
-pub record Decodes (F : Frame) (M M′ : Memory) (r : Decoded) : Type 0 where
-  pub answer : r ≡ decoded F (decodeJudged F (roomOf M))
-  pub memory : M′ ≡ memoryAfter F (decodeJudged F (roomOf M)) M
-
--- What accepting a frame for memory of the lengths m promises of its answer r and of the list lent for the degrees, old before and now after.
+-- What accepting a frame for memory of the lengths m promises of its answer r and of the list of degrees, old before and now after.
 pub record Accepts (F : Frame) (m : Room) (r : Checked) (old now : List ℕ) : Type 0 where
-  pub answer : r ≡ checked (decodeJudgedIn F (length old) m) (settings (F .asked))
+  pub answer : r ≡ checked (decodeFinds F (length old) m) (settings (F .asked))
   pub degrees : now ≡ degreesIn (countable limits (graph F) (length old)) (graph F) old
 
--- What decode promises where it is lent such a list: the answer, the memory, and the list, d before and d′ after.
-pub record DecodesInto (F : Frame) (M M′ : Memory) (d d′ : List ℕ) (r : Decoded) : Type 0 where
-  pub answer : r ≡ decoded F (decodeJudgedIn F (length d) (roomOf M))
-  pub memory : M′ ≡ memoryAfter F (decodeJudgedIn F (length d) (roomOf M)) M
+-- What decode promises of its answer r, of the memory, M before and M′ after, and of the list of degrees, d before and d′ after.
+pub record Decodes (F : Frame) (M M′ : Memory) (d d′ : List ℕ) (r : Decoded) : Type 0 where
+  pub answer : r ≡ decoded F (decodeFinds F (length d) (roomOf M))
+  pub memory : M′ ≡ memoryAfter F (decodeFinds F (length d) (roomOf M)) M
   pub degrees : d′ ≡ degreesIn (countable limits (graph F) (length d)) (graph F) d
 
--- 'The same answers as before where that list is long enough.'
-pub record LentAlike (F : Frame) (d : ℕ) : Type 0 where
-  pub frame : frameJudgedIn F d ≡ frameJudged F
-  pub decode : (m : Room) → decodeJudgedIn F d m ≡ decodeJudged F m
+-- Document 02, item 9: 'graphs within the old limits get the same answers as before where that list is long enough'. Before, the graph's five
+-- came first, at the old limits; answer and memory are functions of what decode finds.
+abbrev pub AsBefore : Type 0
+AsBefore = (F : Frame) (d : ℕ) (m : Room) → Old (graph F) d
+    → decodeFinds F d m ≡ decodeJudged F (graphJudged programLimits (graph F)) m

@@ -82,10 +82,12 @@ offsetsIn s = record { phiS = s .«phi_s»; phiA = s .«phi_a»; phi0 = s .«phi
 abbrev pub rulesUnder : Settings → Graph → (ℕ → Level) → Scheme
 rulesUnder s G y = signPreserving G (largest (s .message)) (offsetsIn s) y
 
--- The lists that a run makes once: the contribution of every message byte, and the messages of the outgoing sums from -17 to 17.
-pub record Lists (Nq : ℕ) (φ : Offsets) (parts : List ℤ) (messages : List ℕ) : Type 0 where
+-- The lists that a run makes once, at the last step of iteration t: the contribution of every message byte, and, where t is 1 or more, the
+-- messages of the outgoing sums from -17 to 17.
+pub record Lists (Nq : ℕ) (φ : Offsets) (t : ℕ) (parts : List ℤ) (messages : List ℕ) : Type 0 where
   pub contributions : parts ≡ tabulate (λ b. contribution 1 (levelOf b)) 256
-  pub outgoings : messages ≡ tabulate (λ k. byte (outgoing Nq φ (pos k -ℤ pos 17))) 35
+  pub long : length messages ≡ 35
+  pub outgoings : 1 ≤ t → messages ≡ tabulate (λ k. byte (outgoing Nq φ (pos k -ℤ pos 17))) 35
 
 -- Ready for the run: iteration 0 in memory of the right lengths.
 pub record Begun (s : Settings) (G : Graph) (y d q C S b : List ℕ) : Type 0 where

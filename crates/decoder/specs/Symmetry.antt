@@ -3,8 +3,10 @@ use mathlib.Core.Path.{_≡_}
 use mathlib.Core.Bool.{Bool}
 use Prim.Native.Nat.{ℕ}
 use Rattle.rules.specs.Levels.{largest}
+use Rattle.rules.specs.Graphs.{limits}
 use Rattle.rules.specs.Symmetry.{Symmetric}
 use Rattle.rules.specs.declared.Judged.the-variants.{Admitted}
+use Rattle.graph.specs.Judging.{graphJudged}
 use Rattle.channel.specs.Reversal.{Bytes, reversed}
 use Rattle.decoder.specs.Decoding.{Frame, graph, levels, offsetsOf, frameJudged}
 
@@ -20,7 +22,7 @@ reversedBy c F = record {
 
 -- 'Its graph, settings and values are accepted where decode, lent long enough buffers, refuses nothing.'
 abbrev pub Accepted : Frame → Type 0
-Accepted F = frameJudged F ≡ Admitted
+Accepted F = frameJudged F (graphJudged limits (graph F)) ≡ Admitted
 
 pub record Twins (F : Frame) (c : ℕ → Bool) : Type 0 where
   -- the reversed frame is accepted too

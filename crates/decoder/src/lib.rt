@@ -58,7 +58,7 @@ fn ended(t: usize, odd: usize) -> Report
     }
 }
 
-// The iterations from 0 to the stop.
+// The iterations from 0 to the stop. The list of messages is made where it is first read: in iteration 1, if the run goes on.
 fn run(
     s: Settings,
     n: usize,
@@ -75,11 +75,14 @@ fn run(
     ensures { λ r. ⌜ RunsUnder s (graphOf n (now (starts .entry)) (now (columns .entry))) (levelIn (now (levels .entry))) r (now («variable_messages» .exit)) (now («check_messages» .exit)) (now (sums .exit)) (now (bits .exit)) ⌝ }
 {
     let parts = nodes::sums::contributions();
-    let messages = nodes::variable::outgoing_messages(s.message, s.phi_s, s.phi_a, s.phi_0);
+    let mut messages = [0u8; 35];
     let mut t: usize = 0;
     loop {
         let codeword = syndrome::is_codeword(n, starts, columns, bits);
         let over = codeword | (s.limit as usize <= t);
+        if !over & (t == 1) {
+            messages = nodes::variable::outgoing_messages(s.message, s.phi_s, s.phi_a, s.phi_0);
+        }
         step::send(
             sends(over, t),
             columns,
@@ -130,7 +133,7 @@ pub fn accept(
 ) -> Checked
     ensures { λ r. ⌜ Accepts (frame n (now (starts .entry)) (now (columns .entry)) (now (values .entry)) asked) room r (now (degrees .entry)) (now (degrees .exit)) ⌝ }
 {
-    let j = graph::check_into(n, starts, columns, degrees);
+    let j = graph::check(n, starts, columns, degrees);
     if let Judged::Refused(r) = j {
         return Checked::Refused(r);
     }
@@ -213,20 +216,22 @@ fn decode_exactly(
     )
 }
 
-// Decodes a frame: the report and the state of the run in the lent memory, or the refusal and the memory as it was.
+// Decodes a frame: the report and the state of the run in the lent memory, or the refusal and the memory as it was; counts the variables'
+// degrees in the list lent for them.
 pub fn decode(
     n: usize,
     starts: &[u8],
     columns: &[u8],
     values: &[u8],
     asked: Parameters,
+    degrees: &mut [u8],
     levels: &mut [u8],
     variable_messages: &mut [u8],
     check_messages: &mut [u8],
     sums: &mut [u8],
     bits: &mut [u8],
 ) -> Decoded
-    ensures { λ r. ⌜ Decodes (frame n (now (starts .entry)) (now (columns .entry)) (now (values .entry)) asked) (memory (now (levels .entry)) (now («variable_messages» .entry)) (now («check_messages» .entry)) (now (sums .entry)) (now (bits .entry))) (memory (now (levels .exit)) (now («variable_messages» .exit)) (now («check_messages» .exit)) (now (sums .exit)) (now (bits .exit))) r ⌝ }
+    ensures { λ r. ⌜ Decodes (frame n (now (starts .entry)) (now (columns .entry)) (now (values .entry)) asked) (memory (now (levels .entry)) (now («variable_messages» .entry)) (now («check_messages» .entry)) (now (sums .entry)) (now (bits .entry))) (memory (now (levels .exit)) (now («variable_messages» .exit)) (now («check_messages» .exit)) (now (sums .exit)) (now (bits .exit))) (now (degrees .entry)) (now (degrees .exit)) r ⌝ }
 {
     let room = Room {
         levels: levels.len(),
@@ -235,8 +240,7 @@ pub fn decode(
         sums: sums.len(),
         bits: bits.len(),
     };
-    let mut degrees = [0u8; 4 * rules::MOST_VARIABLES];
-    let c = accept(n, starts, columns, values, asked, &mut degrees, room);
+    let c = accept(n, starts, columns, values, asked, degrees, room);
     match c {
         Checked::Refused(r) => Decoded::Refused(r),
         Checked::Good(s) => {
@@ -248,7 +252,7 @@ pub fn decode(
                 starts,
                 columns,
                 values,
-                &degrees,
+                degrees,
                 &mut levels[..n],
                 &mut variable_messages[..e],
                 &mut check_messages[..e],

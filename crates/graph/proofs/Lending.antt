@@ -1,19 +1,18 @@
--- The check of a graph where a list is lent for its degrees: how it stands to the check without.
+-- The check of a graph with its list of degrees, and how it stands to the five alone.
 use mathlib.Core.Path.{_≡_, refl, sym, ap, _∙_}
-use mathlib.Core.Bool.{Bool, true}
 use mathlib.Core.List.{List, _++_}
 use Prim.Native.Nat.{ℕ, _*_, _^_, _≤_, _<_}
 use native.Mathlib.Omega.{arith}
 use borrow.Author.Tests.{le-leb, lt-leb}
-use lib.Dec.{eqb, leb}
+use lib.Dec.{eqb}
 use lib.ListN.{length, drop}
 use Rattle.rules.specs.Graphs.{Graph, Limits, AdmittedWithin, variableDegree}
-use Rattle.rules.specs.Refusals.{unless, orElse}
+use Rattle.rules.specs.Refusals.{orElse}
 use Rattle.rules.specs.declared.Judged.{Judged}
 use Rattle.rules.specs.declared.Judged.the-variants.{Admitted, Refused}
 use Rattle.rules.specs.declared.Refusal.{Refusal}
 use Rattle.rules.specs.declared.Refusal.the-variants.{Buffer}
-use Rattle.rules.proofs.Judging.{orElse-left, orElse-right}
+use Rattle.rules.proofs.Judging.{orElse-left, orElse-right, orElse-both}
 use Rattle.rules.proofs.Ranges.{count-le}
 use Rattle.words.specs.Words.{table}
 use Rattle.words.specs.Roles.{degreeAt}
@@ -23,8 +22,7 @@ use Rattle.degrees.specs.Judging.{variablesJudged}
 use Rattle.degrees.proofs.Alike.{variables-alike}
 use Rattle.graph.specs.Judging.{countsJudged, startsJudged, columnsJudged, rowsJudged, checkDegreesJudged, variableDegreesJudged, graphJudged, shapeJudged, degreesJudged, countable, graphJudgedIn}
 use Rattle.graph.specs.Degrees.{degreesIn, Checks, Judges, LentAlike}
-use Rattle.graph.proofs.Parts.{counts-told}
-use Rattle.graph.proofs.Meaning.{parts-admitted, graph-admitted}
+use Rattle.graph.proofs.Meaning.{graph-admitted}
 
 -- nothing is refused before 6 and 5
 pub record Shaped (L : Limits) (G : Graph) : Type 0 where
@@ -50,11 +48,9 @@ module _ {L : Limits} (G : Graph) where
 
   module _ {old now : List ℕ} (counted : now ≡ table 4 (variableDegree G) (G .variables) ++ drop (4 * G .variables) old) where
     pub judges-refused : {r : Refusal} → checkDegreesJudged L G ≡ Refused r → Judges L G (Refused r) old now
-    unfolding degreesJudged
     judges-refused h = record { answer = sym (rw h); degrees = counted }
 
     pub judges-last : {r : Judged} → checkDegreesJudged L G ≡ Admitted → r ≡ variableDegreesJudged L G → Judges L G r old now
-    unfolding degreesJudged
     judges-last h q = record { answer = q ∙ sym (rw h); degrees = counted }
 
   -- ---- the check, where it ends
@@ -96,37 +92,21 @@ pub variables-off : (L : Limits) (G : Graph) (old : List ℕ) {now : List ℕ} {
 unfolding variableDegreesJudged
 variables-off L G old e h p q = variables-alike L p q (λ v l. degree-at G v old e (omega (arith, q)) h)
 
--- ---- beside the check without such a list
+-- ---- beside the five alone
 
--- with a list that is long enough wherever nothing is refused before
-long : (a s c r d : Judged) (t : Bool) → (a ≡ Admitted → t ≡ true)
-    → orElse (orElse (orElse a (orElse s (orElse c r))) (unless t Buffer)) d ≡ orElse a (orElse s (orElse c (orElse r d)))
-long (Refused _) s c r d t h = refl
-long Admitted (Refused _) c r d t h = refl
-long Admitted Admitted (Refused _) r d t h = refl
-long Admitted Admitted Admitted (Refused _) d t h = refl
-long Admitted Admitted Admitted Admitted d t h = rw (h refl)
+none-between : (a b : Judged) → orElse (orElse a Admitted) b ≡ orElse a b
+none-between (Refused _) b = refl
+none-between Admitted b = refl
 
 pub lent-alike : LentAlike
-unfolding graphJudged shapeJudged degreesJudged countable graphJudgedIn
-lent-alike L G d l =
-    long (countsJudged L G) (startsJudged G) (columnsJudged G) (rowsJudged G) (orElse (checkDegreesJudged L G) (variableDegreesJudged L G))
-    (leb (4 * G .variables) d) (λ h. le-leb (4 * G .variables) d (omega (arith, counts-told G h .variables .1)))
+unfolding graphJudged countable graphJudgedIn
+lent-alike L G d l = rw (le-leb (4 * G .variables) d l) (none-between (shapeJudged L G) (degreesJudged L G))
 
 -- refused by none: the graph is admitted
 pub lent-admitted : {L : Limits} (G : Graph) (d : ℕ) → graphJudgedIn L G d ≡ Admitted → AdmittedWithin L G
-unfolding degreesJudged countable graphJudgedIn
+unfolding graphJudged countable graphJudgedIn
 lent-admitted {L} G d h =
-    let shape = shape-told G (orElse-left (shapeJudged L G) _ (orElse-left (countable L G d) _ h)) in
-    let degrees = orElse-right (countable L G d) _ h in
-    graph-admitted G (parts-admitted G (record {
-      counts = shape .counts;
-      starts = shape .starts;
-      columns = shape .columns;
-      rows = shape .rows;
-      checkDegrees = orElse-left (checkDegreesJudged L G) _ degrees;
-      variableDegrees = orElse-right (checkDegreesJudged L G) _ degrees;
-    }))
+    graph-admitted G (orElse-both (orElse-left (shapeJudged L G) _ (orElse-left (countable L G d) _ h)) (orElse-right (countable L G d) _ h))
 
 -- .. and the list holds the degrees
 pub lent-counted : (L : Limits) (G : Graph) (d : ℕ) (old : List ℕ) {now : List ℕ} → graphJudgedIn L G d ≡ Admitted → now ≡ degreesIn (countable L G d) G old

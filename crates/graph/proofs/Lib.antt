@@ -1,5 +1,6 @@
 pub mod Parts
 pub mod Meaning
 pub mod Loops
-pub mod Wider
 pub mod Lending
+pub mod Wider
+pub mod Calls

@@ -9,12 +9,12 @@ use borrow.Author.Tests.{lt-ltb, le-ltb}
 use lib.Dec.{ltb}
 use lib.ListN.{take, drop}
 use Rattle.words.specs.Roles.{wide}
-use Rattle.rules.specs.Graphs.{Graph, Limits, leastCheckDegree, leastVariableDegree, variableDegree, between}
+use Rattle.rules.specs.Graphs.{Graph, Limits, leastCheckDegree, between}
 use Rattle.rules.specs.declared.Judged.{Judged}
 use Rattle.rules.specs.declared.Judged.the-variants as Judgement
 use Rattle.graph.specs.Judging.{startFits, spanJudged}
 use Rattle.graph.specs.Calls.{partOf}
-use Rattle.graph.proofs.Parts.{startTest, rowJudged, checkTest, variableTest}
+use Rattle.graph.proofs.Parts.{startTest, rowJudged, checkTest}
 
 -- ---- tests, from what was read
 
@@ -36,10 +36,6 @@ check-test L G i p q r = sym (r ∙ ap₂ (λ x y. between leastCheckDegree (y -
 pub row-test : (G : Graph) (i a b : ℕ) {j : Judged} → a ≡ G .start i → b ≡ G .start (i + 1) → j ≡ spanJudged (G .column) a b
     → rowJudged G i ≡ j
 row-test G i a b p q r = sym (r ∙ ap₂ (spanJudged (G .column)) p (q ∙ ap (G .start) (add-one i)))
-
-pub variable-test : (L : Limits) (G : Graph) (v : ℕ) {d : ℕ} {t : Bool} → d ≡ variableDegree G v
-    → t ≡ between leastVariableDegree d (L .variableDegree) → variableTest L G v ≡ t
-variable-test L G v p r = sym (r ∙ ap (λ d. between leastVariableDegree d (L .variableDegree)) p)
 
 -- the part that row i is
 pub part-is : (G : Graph) (columns : List ℕ) (i x y : ℕ) → x ≡ G .start i → y ≡ G .start (i + 1)

@@ -1,17 +1,11 @@
 -- A graph is refused by none of the five exactly when it is admitted, under any limits.
-use mathlib.Core.Path.{_≡_, sym, _∙_}
-use Prim.Native.Nat.{ℕ, _<_}
+use mathlib.Core.Path.{_≡_}
 use native.Mathlib.Omega.{arith}
-use borrow.Author.Tests.{ltb-true}
-use lib.Dec.{ltb}
-use Rattle.rules.specs.Graphs.{Graph, Limits, limits, AdmittedWithin, Admitted}
-use Rattle.rules.specs.Refusals.{unless}
-use Rattle.rules.specs.declared.Refusal.the-variants.{Range}
-use Rattle.rules.specs.declared.Refusal.{Refusal}
+use Rattle.rules.specs.Graphs.{Graph, Limits, AdmittedWithin}
 use Rattle.rules.specs.declared.Judged.the-variants as Judgement
-use Rattle.rules.proofs.Judging.{orElse-left, orElse-right, orElse-both, unless-true, refused-not}
-use Rattle.graph.specs.Judging.{countsJudged, startsJudged, columnsJudged, rowsJudged, checkDegreesJudged, variableDegreesJudged, graphJudged}
-use Rattle.graph.specs.Calls.{JudgedRightly, rowJudgement}
+use Rattle.rules.proofs.Judging.{orElse-left, orElse-right, orElse-both}
+use Rattle.graph.specs.Judging.{countsJudged, startsJudged, columnsJudged, rowsJudged, checkDegreesJudged, variableDegreesJudged, shapeJudged, graphJudged}
+use Rattle.graph.specs.Calls.{JudgedRightly}
 use Rattle.graph.proofs.Parts.{counts-told, counts-admitted, Starts, starts-told, starts-admitted, columns-told, columns-admitted, rows-told, rows-admitted, check-degrees-told, check-degrees-admitted, variable-degrees-told, variable-degrees-admitted}
 
 -- none of the parts refuses
@@ -29,27 +23,26 @@ admitted-starts G a = record { begins = a .begins; ends = a .ends; rises = λ i 
 
 module _ {L : Limits} (G : Graph) where
   pub parts-told : graphJudged L G ≡ Judgement.Admitted → Parts L G
-  unfolding graphJudged
+  unfolding graphJudged shapeJudged
   parts-told h =
-      let after-counts = orElse-right (countsJudged L G) _ h in
+      let shape = orElse-left (shapeJudged L G) _ h in
+      let degrees = orElse-right (shapeJudged L G) _ h in
+      let after-counts = orElse-right (countsJudged L G) _ shape in
       let after-starts = orElse-right (startsJudged G) _ after-counts in
-      let after-columns = orElse-right (columnsJudged G) _ after-starts in
-      let after-rows = orElse-right (rowsJudged G) _ after-columns in
       record {
-        counts = orElse-left (countsJudged L G) _ h;
+        counts = orElse-left (countsJudged L G) _ shape;
         starts = orElse-left (startsJudged G) _ after-counts;
         columns = orElse-left (columnsJudged G) _ after-starts;
-        rows = orElse-left (rowsJudged G) _ after-columns;
-        checkDegrees = orElse-left (checkDegreesJudged L G) _ after-rows;
-        variableDegrees = orElse-right (checkDegreesJudged L G) _ after-rows;
+        rows = orElse-right (columnsJudged G) _ after-starts;
+        checkDegrees = orElse-left (checkDegreesJudged L G) _ degrees;
+        variableDegrees = orElse-right (checkDegreesJudged L G) _ degrees;
       }
 
   pub parts-admitted : Parts L G → graphJudged L G ≡ Judgement.Admitted
-  unfolding graphJudged
+  unfolding graphJudged shapeJudged
   parts-admitted p =
-      orElse-both (p .counts)
-      (orElse-both (p .starts)
-      (orElse-both (p .columns) (orElse-both (p .rows) (orElse-both (p .checkDegrees) (p .variableDegrees)))))
+      orElse-both (orElse-both (p .counts) (orElse-both (p .starts) (orElse-both (p .columns) (p .rows))))
+      (orElse-both (p .checkDegrees) (p .variableDegrees))
 
   pub graph-admitted : graphJudged L G ≡ Judgement.Admitted → AdmittedWithin L G
   graph-admitted h =
@@ -80,17 +73,3 @@ module _ {L : Limits} (G : Graph) where
 
 pub judged-rightly : JudgedRightly
 judged-rightly L G = (graph-admitted G, admitted-graph G)
-
--- a refused graph is not admitted
-pub graph-refused : {L : Limits} (G : Graph) {r : Refusal} → graphJudged L G ≡ Judgement.Refused r → AdmittedWithin L G → ⊥
-graph-refused G h a = refused-not (sym h ∙ admitted-graph G a)
-
--- ---- the calls on a graph
-
-pub row-admitted : (G : Graph) (i : ℕ) → rowJudgement G i ≡ Judgement.Admitted → Admitted G × (i < G .checks)
-unfolding rowJudgement
-row-admitted G i h =
-    let number = unless (ltb i (G .checks)) (Range i) in (
-      graph-admitted G (orElse-left (graphJudged limits G) number h),
-      ltb-true i (G .checks) (unless-true (ltb i (G .checks)) (Range i) (orElse-right (graphJudged limits G) number h)),
-    )

@@ -15,7 +15,7 @@ abbrev pub degreesIn : Judged → Graph → List ℕ → List ℕ
 degreesIn Judgement.Admitted G old = table 4 (variableDegree G) (G .variables) ++ drop (4 * G .variables) old
 degreesIn (Judgement.Refused r) G old = old
 
--- The check of a graph that is lent the list: the answer r, and the list before and after.
+-- 'Check a graph': the answer r, and the list before and after.
 pub record Checks (L : Limits) (G : Graph) (r : Judged) (old now : List ℕ) : Type 0 where
   pub answer : r ≡ graphJudgedIn L G (length old)
   pub degrees : now ≡ degreesIn (countable L G (length old)) G old
@@ -25,7 +25,6 @@ pub record Judges (L : Limits) (G : Graph) (r : Judged) (old now : List ℕ) : T
   pub answer : r ≡ degreesJudged L G
   pub degrees : now ≡ table 4 (variableDegree G) (G .variables) ++ drop (4 * G .variables) old
 
--- 'Graphs within the old limits get the same answers as before where that list is long enough': a list for the most variables that L
--- allows changes no answer.
+-- A list that is long enough changes no answer.
 abbrev pub LentAlike : Type 0
-LentAlike = (L : Limits) (G : Graph) (d : ℕ) → 4 * L .variables ≤ d → graphJudgedIn L G d ≡ graphJudged L G
+LentAlike = (L : Limits) (G : Graph) (d : ℕ) → 4 * G .variables ≤ d → graphJudgedIn L G d ≡ graphJudged L G

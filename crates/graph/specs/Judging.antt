@@ -44,24 +44,21 @@ module _ (L : Limits) (G : Graph) where
   unfoldable pub variableDegreesJudged : Judged
   variableDegreesJudged = variablesJudged L (G .checks) (variableDegree G) (G .variables)
 
-  -- 'Check a graph': 2, 7, 3, 4, 5.
-  unfoldable pub graphJudged : Judged
-  graphJudged =
-      orElse (countsJudged L G)
-      (orElse (startsJudged G) (orElse (columnsJudged G) (orElse (rowsJudged G) (orElse checkDegreesJudged variableDegreesJudged))))
+  abbrev pub degreesJudged : Judged
+  degreesJudged = orElse checkDegreesJudged variableDegreesJudged
 
   -- What comes before the degrees: 2, 7, 3, 4.
   unfoldable pub shapeJudged : Judged
   shapeJudged = orElse (countsJudged L G) (orElse (startsJudged G) (orElse (columnsJudged G) (rowsJudged G)))
 
-  -- 5: of the checks, then of the variables.
-  unfoldable pub degreesJudged : Judged
-  degreesJudged = orElse checkDegreesJudged variableDegreesJudged
+  -- 'The graph's five': 2, 7, 3, 4, 5. What is refused where the list of degrees is long enough.
+  unfoldable pub graphJudged : Judged
+  graphJudged = orElse shapeJudged degreesJudged
 
   -- 'A further lent list of n 32-bit numbers, and a shorter one gets 6 directly before 5': a list of d bytes is lent.
   unfoldable pub countable : ℕ → Judged
   countable d = orElse shapeJudged (unless (leb (4 * G .variables) d) Buffer)
 
-  -- 'Check a graph' where such a list is lent: 2, 7, 3, 4, 6, 5.
+  -- 'Check a graph': 2, 7, 3, 4, 6, 5.
   unfoldable pub graphJudgedIn : ℕ → Judged
   graphJudgedIn d = orElse (countable d) degreesJudged

@@ -1,3 +1,3 @@
 pub mod Judging
-pub mod Calls
 pub mod Degrees
+pub mod Calls

@@ -7,8 +7,8 @@ ghost use Rattle.rules.specs.Graphs.{limits};
 ghost use Rattle.rules.specs.declared.Judged.the-variants as Judgement;
 ghost use Rattle.words.specs.Words.{table};
 ghost use Rattle.words.specs.Roles.{wide, columnAt, graphOf};
-ghost use Rattle.graph.specs.Judging.{countsJudged, startFits, startsJudged, columnsJudged, spanJudged, rowsJudged, checkDegreesJudged, graphJudged, shapeJudged};
-ghost use Rattle.graph.specs.Calls.{rowJudgement, partOf, bytesJudged, bitsJudged, oddAnswer};
+ghost use Rattle.graph.specs.Judging.{countsJudged, startFits, startsJudged, columnsJudged, spanJudged, rowsJudged, checkDegreesJudged, shapeJudged};
+ghost use Rattle.graph.specs.Calls.{JudgesRow, GivesRow, bytesJudged, CountsOdd};
 ghost use Rattle.degrees.specs.Counting.{tally};
 ghost use Rattle.graph.specs.Degrees.{Checks, Judges};
 use rules::Judged;
@@ -186,8 +186,8 @@ fn check_shape(n: usize, starts: &[u8], columns: &[u8]) -> Judged
     check_rows(n, starts, columns)
 }
 
-// Whether a graph is admitted, with the variables' degrees counted in the lent list.
-pub fn check_into(n: usize, starts: &[u8], columns: &[u8], degrees: &mut [u8]) -> Judged
+// Whether a graph is admitted; counts the variables' degrees in the lent list.
+pub fn check(n: usize, starts: &[u8], columns: &[u8], degrees: &mut [u8]) -> Judged
     ensures { λ r. ⌜ Checks limits (graphOf n (now (starts .entry)) (now (columns .entry))) r (now (degrees .entry)) (now (degrees .exit)) ⌝ }
 {
     let j = check_shape(n, starts, columns);
@@ -200,21 +200,13 @@ pub fn check_into(n: usize, starts: &[u8], columns: &[u8], degrees: &mut [u8]) -
     judge_degrees(n, starts, columns, degrees)
 }
 
-// Whether a graph is admitted.
-pub fn check(n: usize, starts: &[u8], columns: &[u8]) -> Judged
-    ensures { λ r. ⌜ r ≡ graphJudged limits (graphOf n (now (starts .entry)) (now (columns .entry))) ⌝ }
-{
-    let mut degrees = [0u8; 4 * rules::MOST_VARIABLES];
-    check_into(n, starts, columns, &mut degrees)
-}
-
 // ---- row of a check
 
 // Whether a graph is admitted and has the check i: number and place of what `row` refuses.
-pub fn judge_row(n: usize, starts: &[u8], columns: &[u8], i: usize) -> Judged
-    ensures { λ r. ⌜ r ≡ rowJudgement (graphOf n (now (starts .entry)) (now (columns .entry))) i ⌝ }
+pub fn judge_row(n: usize, starts: &[u8], columns: &[u8], i: usize, degrees: &mut [u8]) -> Judged
+    ensures { λ r. ⌜ JudgesRow (graphOf n (now (starts .entry)) (now (columns .entry))) i r (now (degrees .entry)) (now (degrees .exit)) ⌝ }
 {
-    let j = check(n, starts, columns);
+    let j = check(n, starts, columns, degrees);
     if let Judged::Refused(r) = j {
         return Judged::Refused(r);
     }
@@ -225,10 +217,10 @@ pub fn judge_row(n: usize, starts: &[u8], columns: &[u8], i: usize) -> Judged
 }
 
 // The columns of check i, as that part of the list; empty where `judge_row` refuses.
-pub fn row<'a>(n: usize, starts: &[u8], columns: &'a [u8], i: usize) -> &'a [u8]
-    ensures { λ r. ⌜ now r ≡ partOf (rowJudgement (graphOf n (now (starts .entry)) (now (columns .entry))) i) (graphOf n (now (starts .entry)) (now (columns .entry))) (now (columns .entry)) i ⌝ }
+pub fn row<'a>(n: usize, starts: &[u8], columns: &'a [u8], i: usize, degrees: &mut [u8]) -> &'a [u8]
+    ensures { λ r. ⌜ GivesRow (graphOf n (now (starts .entry)) (now (columns .entry))) (now (columns .entry)) i (now r) (now (degrees .entry)) (now (degrees .exit)) ⌝ }
 {
-    let j = judge_row(n, starts, columns, i);
+    let j = judge_row(n, starts, columns, i, degrees);
     if let Judged::Refused(_) = j {
         return &columns[0..0];
     }
@@ -260,10 +252,16 @@ fn check_bits(bits: &[u8]) -> Judged
 }
 
 // Counts the odd checks of given bits.
-pub fn count_odd(n: usize, starts: &[u8], columns: &[u8], bits: &[u8]) -> OddChecks
-    ensures { λ r. ⌜ r ≡ oddAnswer (bitsJudged (graphOf n (now (starts .entry)) (now (columns .entry))) (now (bits .entry))) (graphOf n (now (starts .entry)) (now (columns .entry))) (now (bits .entry)) ⌝ }
+pub fn count_odd(
+    n: usize,
+    starts: &[u8],
+    columns: &[u8],
+    bits: &[u8],
+    degrees: &mut [u8],
+) -> OddChecks
+    ensures { λ r. ⌜ CountsOdd (graphOf n (now (starts .entry)) (now (columns .entry))) (now (bits .entry)) r (now (degrees .entry)) (now (degrees .exit)) ⌝ }
 {
-    let j = check(n, starts, columns);
+    let j = check(n, starts, columns, degrees);
     if let Judged::Refused(r) = j {
         return OddChecks::Refused(r);
     }

@@ -1,4 +1,4 @@
--- The place of decode's refusal, from its number, the graph and the values alone.
+-- The place of decode's refusal, from its number, the graph with its list of degrees and the values alone.
 use mathlib.Core.Path.{_≡_, refl, sym, ap, _∙_, subst}
 use mathlib.Core.Bool.{Bool, true, false, cond, not}
 use mathlib.Core.List.{List}
@@ -17,9 +17,8 @@ use Rattle.rules.specs.declared.Judged.{Judged}
 use Rattle.rules.specs.declared.Judged.the-variants.{Admitted, Refused}
 use Rattle.rules.proofs.Judging.{refused-not, each-from}
 use Rattle.words.specs.Roles.{valueAt}
-use Rattle.graph.specs.Judging.{graphJudged}
-use Rattle.graph.proofs.Lending.{lent-alike}
-use Rattle.graph.proofs.Meaning.{graph-admitted}
+use Rattle.graph.specs.Judging.{graphJudgedIn}
+use Rattle.graph.proofs.Lending.{lent-admitted}
 use Rattle.channel.specs.declared.Parameters.{Parameters}
 use Rattle.channel.specs.declared.Scaling.the-variants.{Plain}
 use Rattle.channel.specs.declared.Settings.{Settings}
@@ -29,9 +28,9 @@ use Rattle.channel.specs.Scaling.{factorOf, positive, scalingAdmitted, infinite
 use Rattle.channel.specs.Settings.{precisionsAdmitted, optionsAdmitted, settings, settingsJudged}
 use Rattle.channel.specs.Values.{valuesJudged}
 use Rattle.decoder.specs.declared.Room.{Room}
-use Rattle.decoder.specs.Decoding.{Frame, graph, enough, frameJudged, decodeJudged, frameJudgedIn, decodeJudgedIn, decoded, Accepts}
+use Rattle.decoder.specs.Decoding.{Frame, graph, enough, frameJudged, decodeJudged, decodeFinds, decoded, Accepts}
 use Rattle.decoder.proofs.Accepting.{checked-refused, checked-good}
-use Rattle.host.specs.Packing.{packDecoded, numberOf, placeOf, placesJudged, decodePlace, askedOf}
+use Rattle.host.specs.Packing.{packDecoded, numberOf, placeOf, placesJudged, decodePlace, TellsPlace, askedOf}
 use Rattle.host.specs.Theorems.{PlacesTold}
 
 -- a refusal with place 0, other than 12
@@ -112,9 +111,9 @@ number-packed F Admitted = omega arith
 
 pub places-told : PlacesTold
 unfolding decodeJudged frameJudged
-places-told F m =
-    rw (number-packed F (decodeJudged F m))
-    (in-order (length (F .values) / 4) (graphJudged limits (graph F)) (eqb (length (F .values) / 4) (F .variables)) (settingsJudged (F .asked)) (valuesJudged (F .values))
+places-told F d m =
+    rw (number-packed F (decodeFinds F d m))
+    (in-order (length (F .values) / 4) (graphJudgedIn limits (graph F) d) (eqb (length (F .values) / 4) (F .variables)) (settingsJudged (F .asked)) (valuesJudged (F .values))
     (enough (F .variables) (graph F .entries) m) (settings-placeless (F .asked)) (values-twelve (F .values)))
 
 -- ---- accepted with settings that are in order, and enough memory
@@ -137,31 +136,43 @@ ample = record {
 ample-enough : (n E : ℕ) → n ≤ limits .variables → E ≤ limits .entries → enough n E ample ≡ true
 ample-enough n E p q = rw (le-leb n (limits .variables) p, le-leb E (limits .entries) q, le-leb (4 * n) (4 * limits .variables) (omega arith))
 
-module _ (F : Frame) (d : ℕ) (good : settingsJudged (F .asked) ≡ Admitted) (list : 4 * limits .variables ≤ d) where
-  pub only-places : decodeJudgedIn F d ample ≡ placesJudged (graph F) (F .values)
-  unfolding decodeJudgedIn frameJudgedIn
-  only-places = rw (lent-alike limits (graph F) d list, good) (go (graphJudged limits (graph F)) refl)
+module _ (F : Frame) (d : ℕ) (good : settingsJudged (F .asked) ≡ Admitted) where
+  pub only-places : decodeFinds F d ample ≡ placesJudged (graph F) (F .values) d
+  unfolding decodeJudged frameJudged
+  only-places = rw good (go (graphJudgedIn limits (graph F) d) refl)
     where
       rest : Judged
       rest = orElse (unless (eqb (length (F .values) / 4) (F .variables)) (R.Length (length (F .values) / 4))) (valuesJudged (F .values))
 
-      go : (g : Judged) → graphJudged limits (graph F) ≡ g → orElse (orElse g rest) (unless (enough (F .variables) (graph F .entries) ample) R.Buffer) ≡ orElse g rest
+      go : (g : Judged) → graphJudgedIn limits (graph F) d ≡ g → orElse (orElse g rest) (unless (enough (F .variables) (graph F .entries) ample) R.Buffer) ≡ orElse g rest
       go (Refused r) h = refl
       go Admitted h =
-          let a = graph-admitted (graph F) h in
+          let a = lent-admitted (graph F) d h in
           rw (ample-enough (F .variables) (graph F .entries) (a .variables .1) (a .entries)) (orElse-none rest)
 
--- the answer of the companion, from what `accept` answers
-module _ (F : Frame) {a : Checked} {old now : List ℕ} (accepts : Accepts F ample a old now) (only : decodeJudgedIn F (length old) ample ≡ placesJudged (graph F) (F .values)) where
-  refused : {r : Refusal} → a ≡ Checks.Refused r → placesJudged (graph F) (F .values) ≡ Refused r
-  refused e = sym only ∙ checked-refused (decodeJudgedIn F (length old) ample) (settings (F .asked)) (sym (accepts .answer) ∙ e)
+-- what the companion promises, from what `accept` answers
+module _ (F : Frame) {a : Checked} {old now : List ℕ} (accepts : Accepts F ample a old now) (good : settingsJudged (F .asked) ≡ Admitted) where
+  abbrev found : Judged
+  found = placesJudged (graph F) (F .values) (length old)
 
-  pub of-its-number : {r : Refusal} {number : ℕ} → a ≡ Checks.Refused r → paper r .number ≡ number → paper r .place ≡ decodePlace (graph F) (F .values) number
-  of-its-number {r} {number} e n = rw (refused e, eq-eqb (paper r .number) number n)
+  finds : {j : Judged} → decodeFinds F (length old) ample ≡ j → found ≡ j
+  finds h = sym (only-places F (length old) good) ∙ h
 
-  pub of-another : {r : Refusal} {number : ℕ} → a ≡ Checks.Refused r → (paper r .number ≡ number → ⊥) → 0 ≡ decodePlace (graph F) (F .values) number
-  of-another {r} {number} e n = rw (refused e, ne-eqb (paper r .number) number n)
+  refused : {r : Refusal} → a ≡ Checks.Refused r → found ≡ Refused r
+  refused e = finds (checked-refused (decodeFinds F (length old) ample) (settings (F .asked)) (sym (accepts .answer) ∙ e))
 
-  pub of-none : {s : Settings} (number : ℕ) → a ≡ Checks.Good s → 0 ≡ decodePlace (graph F) (F .values) number
-  of-none {s} number e =
-      rw (sym only ∙ checked-good (decodeJudgedIn F (length old) ample) (settings (F .asked)) (sym (accepts .answer) ∙ e)) (sym (none-placed (eqb 0 number)))
+  abbrev Tells : ℕ → ℕ → Type 0
+  Tells number r = TellsPlace (graph F) (decodePlace (graph F) (F .values) (length old) number) old now r
+
+  pub of-its-number : {r : Refusal} {number place : ℕ} → a ≡ Checks.Refused r → paper r .number ≡ number → place ≡ paper r .place → Tells number place
+  of-its-number {r} {number} e n q = record { answer = q ∙ sym (rw (refused e, eq-eqb (paper r .number) number n)); degrees = accepts .degrees }
+
+  pub of-another : {r : Refusal} {number : ℕ} → a ≡ Checks.Refused r → (paper r .number ≡ number → ⊥) → Tells number 0
+  of-another {r} {number} e n = record { answer = rw (refused e, ne-eqb (paper r .number) number n); degrees = accepts .degrees }
+
+  pub of-none : {s : Settings} (number : ℕ) → a ≡ Checks.Good s → Tells number 0
+  of-none {s} number e = record {
+    answer =
+        rw (finds (checked-good (decodeFinds F (length old) ample) (settings (F .asked)) (sym (accepts .answer) ∙ e))) (sym (none-placed (eqb 0 number)));
+    degrees = accepts .degrees;
+  }

@@ -1,8 +1,9 @@
 // The entries that C calls: each a call of the library, on numbers and byte slices.
 ghost use mathlib.Core.Path.{_≡_};
+ghost use lib.ListN.{length};
 ghost use Rattle.words.specs.Roles.{graphOf};
 ghost use Rattle.decoder.specs.Frames.{frame, memory};
-ghost use Rattle.host.specs.Packing.{scalingOf, askedOf, verdictOf, packDecoded, placeOf, decodePlace, HostDecodes, Small};
+ghost use Rattle.host.specs.Packing.{scalingOf, askedOf, verdictOf, packDecoded, placeOf, decodePlace, HostDecodes, TellsPlace, Small};
 use channel::Checked;
 use channel::Parameters;
 use channel::Scaling;
@@ -83,13 +84,14 @@ pub extern "C" fn frame_decode(
     phi_a: u32,
     phi_0: u32,
     limit: u32,
+    degrees: &mut [u8],
     levels: &mut [u8],
     variable_messages: &mut [u8],
     check_messages: &mut [u8],
     sums: &mut [u8],
     bits: &mut [u8],
 ) -> u64
-    ensures { λ r. ⌜ HostDecodes (frame n (now (starts .entry)) (now (columns .entry)) (now (values .entry)) (askedOf (scalingOf kind gain variance) channel message «phi_s» «phi_a» «phi_0» limit)) (memory (now (levels .entry)) (now («variable_messages» .entry)) (now («check_messages» .entry)) (now (sums .entry)) (now (bits .entry))) (memory (now (levels .exit)) (now («variable_messages» .exit)) (now («check_messages» .exit)) (now (sums .exit)) (now (bits .exit))) r ⌝ }
+    ensures { λ r. ⌜ HostDecodes (frame n (now (starts .entry)) (now (columns .entry)) (now (values .entry)) (askedOf (scalingOf kind gain variance) channel message «phi_s» «phi_a» «phi_0» limit)) (memory (now (levels .entry)) (now («variable_messages» .entry)) (now («check_messages» .entry)) (now (sums .entry)) (now (bits .entry))) (memory (now (levels .exit)) (now («variable_messages» .exit)) (now («check_messages» .exit)) (now (sums .exit)) (now (bits .exit))) (now (degrees .entry)) (now (degrees .exit)) r ⌝ }
 {
     let scaling = scaling_of(kind, gain, variance);
     let asked = Parameters {
@@ -107,6 +109,7 @@ pub extern "C" fn frame_decode(
         columns,
         values,
         asked,
+        degrees,
         levels,
         variable_messages,
         check_messages,
@@ -116,8 +119,8 @@ pub extern "C" fn frame_decode(
     pack_decoded(d)
 }
 
-// The place of what `frame_decode` refuses of this graph and these values, where its number is `refusal`; 0 where that is 0. Asked with
-// settings that are in order and memory enough for every graph, decode refuses nothing that has no place.
+// The place of what `frame_decode` refuses of this graph, with this list of degrees, and these values, where its number is `refusal`; 0 where
+// that is 0. Asked with settings that are in order and memory enough for every graph, decode refuses nothing else that has no place.
 #[no_mangle]
 pub extern "C" fn frame_decode_place(
     n: usize,
@@ -125,8 +128,9 @@ pub extern "C" fn frame_decode_place(
     columns: &[u8],
     values: &[u8],
     refusal: u32,
+    degrees: &mut [u8],
 ) -> usize
-    ensures { λ r. ⌜ r ≡ decodePlace (graphOf n (now (starts .entry)) (now (columns .entry))) (now (values .entry)) refusal ⌝ }
+    ensures { λ r. ⌜ TellsPlace (graphOf n (now (starts .entry)) (now (columns .entry))) (decodePlace (graphOf n (now (starts .entry)) (now (columns .entry))) (now (values .entry)) (length (now (degrees .entry))) refusal) (now (degrees .entry)) (now (degrees .exit)) r ⌝ }
 {
     let asked = Parameters {
         scaling: Scaling::Plain(1.0),
@@ -144,8 +148,7 @@ pub extern "C" fn frame_decode_place(
         sums: 4 * rules::MOST_VARIABLES,
         bits: rules::MOST_VARIABLES,
     };
-    let mut degrees = [0u8; 4 * rules::MOST_VARIABLES];
-    let c = decoder::accept(n, starts, columns, values, asked, &mut degrees, room);
+    let c = decoder::accept(n, starts, columns, values, asked, degrees, room);
     if let Checked::Refused(r) = c {
         let k = r.numbered();
         if k.number as u32 == refusal {

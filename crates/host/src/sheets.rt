@@ -1,11 +1,9 @@
 // The entries for code sheets.
 ghost use mathlib.Core.Path.{_≡_};
 ghost use lib.ListN.{length};
-ghost use Rattle.rules.specs.Graphs.{limits};
 ghost use Rattle.words.specs.Roles.{graphOf};
-ghost use Rattle.sheet.specs.Reading.{sheetRead, readJudged};
-ghost use Rattle.sheet_writer.specs.Writing.{writeJudged};
-ghost use Rattle.host.specs.Packing.{placeOf, packRead, packWritten, HostReads, HostWrites, SmallRead, SmallWritten};
+ghost use Rattle.sheet_writer.specs.Writing.{writeFinds};
+ghost use Rattle.host.specs.Packing.{placeOf, packRead, packWritten, HostReads, HostWrites, TellsPlace, TellsLine, SmallRead, SmallWritten};
 use sheet::Sheet;
 use sheet_writer::Written;
 
@@ -19,11 +17,7 @@ fn pack_read(s: Sheet) -> u64
             let k = r.numbered();
             k.number as u64
         }
-        Sheet::Read(k) => {
-            256 * (k.variables as u64)
-                + 16777216 * (k.checks as u64)
-                + 1099511627776 * (k.entries as u64)
-        }
+        Sheet::Read(k) => 256 * (k.variables as u64) + 4294967296 * (k.checks as u64),
     }
 }
 
@@ -43,28 +37,44 @@ fn pack_written(w: Written) -> u64
 
 // Reads a sheet into the lists of its graph.
 #[no_mangle]
-pub extern "C" fn frame_read_sheet(text: &[u8], starts: &mut [u8], columns: &mut [u8]) -> u64
-    ensures { λ r. ⌜ HostReads (sheetRead limits (now (text .entry)) (length (now (starts .entry))) (length (now (columns .entry)))) (now (starts .entry)) (now (starts .exit)) (now (columns .entry)) (now (columns .exit)) r ⌝ }
+pub extern "C" fn frame_read_sheet(
+    text: &[u8],
+    degrees: &mut [u8],
+    starts: &mut [u8],
+    columns: &mut [u8],
+) -> u64
+    ensures { λ r. ⌜ HostReads (now (text .entry)) (now (degrees .entry)) (now (degrees .exit)) (now (starts .entry)) (now (starts .exit)) (now (columns .entry)) (now (columns .exit)) r ⌝ }
 {
-    let s = sheet::read(text, starts, columns);
+    let s = sheet::read(text, degrees, starts, columns);
     pack_read(s)
 }
 
 // The place of what `frame_read_sheet` refuses for lists of these lengths, 0 where it refuses nothing.
 #[no_mangle]
-pub extern "C" fn frame_read_sheet_place(text: &[u8], starts: usize, columns: usize) -> usize
-    ensures { λ r. ⌜ r ≡ placeOf (readJudged (sheetRead limits (now (text .entry)) starts columns)) ⌝ }
+pub extern "C" fn frame_read_sheet_place(
+    text: &[u8],
+    degrees: &mut [u8],
+    starts: usize,
+    columns: usize,
+) -> usize
+    ensures { λ r. ⌜ TellsLine (now (text .entry)) (now (degrees .entry)) (now (degrees .exit)) starts columns r ⌝ }
 {
-    let j = sheet::judge_read(text, starts, columns);
+    let j = sheet::judge_read(text, degrees, starts, columns);
     crate::place_of(j)
 }
 
 // Writes the sheet of a graph.
 #[no_mangle]
-pub extern "C" fn frame_write_sheet(n: usize, starts: &[u8], columns: &[u8], text: &mut [u8]) -> u64
-    ensures { λ r. ⌜ HostWrites (writeJudged (graphOf n (now (starts .entry)) (now (columns .entry))) (length (now (text .entry)))) (graphOf n (now (starts .entry)) (now (columns .entry))) (now (text .entry)) (now (text .exit)) r ⌝ }
+pub extern "C" fn frame_write_sheet(
+    n: usize,
+    starts: &[u8],
+    columns: &[u8],
+    degrees: &mut [u8],
+    text: &mut [u8],
+) -> u64
+    ensures { λ r. ⌜ HostWrites (graphOf n (now (starts .entry)) (now (columns .entry))) (now (degrees .entry)) (now (degrees .exit)) (now (text .entry)) (now (text .exit)) r ⌝ }
 {
-    let w = sheet_writer::write(n, starts, columns, text);
+    let w = sheet_writer::write(n, starts, columns, degrees, text);
     pack_written(w)
 }
 
@@ -74,10 +84,11 @@ pub extern "C" fn frame_write_sheet_place(
     n: usize,
     starts: &[u8],
     columns: &[u8],
+    degrees: &mut [u8],
     text: usize,
 ) -> usize
-    ensures { λ r. ⌜ r ≡ placeOf (writeJudged (graphOf n (now (starts .entry)) (now (columns .entry))) text) ⌝ }
+    ensures { λ r. ⌜ TellsPlace (graphOf n (now (starts .entry)) (now (columns .entry))) (placeOf (writeFinds (graphOf n (now (starts .entry)) (now (columns .entry))) (length (now (degrees .entry))) text)) (now (degrees .entry)) (now (degrees .exit)) r ⌝ }
 {
-    let j = sheet_writer::judge_write(n, starts, columns, text);
+    let j = sheet_writer::judge_write(n, starts, columns, degrees, text);
     crate::place_of(j)
 }

@@ -1,5 +1,5 @@
 -- Reading what is known to stand at a place.
-use mathlib.Core.Path.{_≡_, refl, sym, ap, ap₂, _∙_}
+use mathlib.Core.Path.{_≡_, refl, sym, ap, ap₂, _∙_, subst}
 use mathlib.Core.Bool.{Bool, true, false}
 use mathlib.Core.List.{List, [], _∷_}
 use Prim.Native.Nat.{ℕ, _+_, _-_, _*_, _≤_, _<_}
@@ -139,8 +139,12 @@ module _ {s : List ℕ} {at x v i : ℕ} (g : Going s at x v i) where
     pub going-digit : (48 ≤ getD s i 0) × (getD s i 0 ≤ 57)
     going-digit = digit-told (getD s i 0) (rest-digit (g .low) s i v (g .left) n)
 
-    pub going-more : Going s at x (v * 10 + (getD s i 0 - 48)) (i + 1)
+    going-more : Going s at x (v * 10 + (getD s i 0 - 48)) (i + 1)
     going-more = record { low = g .low; known = g .known; from = omega (arith, g .from); left = rest-more (g .low) s i v (g .left) n }
+
+    -- the digit's number and the place after it, as the code has them
+    pub going-on : {w j : ℕ} → w ≡ v * 10 + (getD s i 0 - 48) → j ≡ i + 1 → Going s at x w j
+    going-on {w} {j} p q = subst (λ k. Going s at x k j) (sym p) (subst (λ k. Going s at x (v * 10 + (getD s i 0 - 48)) k) (sym q) going-more)
 
   pub going-ends : getD s i 0 ≡ x → NumberRead (field x (drop at s)) s at v (i + 1)
   going-ends e =
@@ -152,6 +156,9 @@ module _ {s : List ℕ} {at x v i : ℕ} (g : Going s at x v i) where
         on = omega (arith, g .from);
         within = omega (arith, going-within);
       }
+
+  pub ends-at : {j : ℕ} → getD s i 0 ≡ x → j ≡ i + 1 → NumberRead (field x (drop at s)) s at v j
+  ends-at {j} e q = subst (NumberRead (field x (drop at s)) s at v) (sym q) (going-ends e)
 
 -- ---- the two fields of a line
 

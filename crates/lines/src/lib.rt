@@ -184,7 +184,15 @@ pub struct FoundLine {
     pub next: usize,
 }
 
-// The number at a place with the byte x after it, in a text that was judged before: its bytes are not judged again.
+// The number v with one digit more, the byte b.
+fn with_digit(v: usize, b: u8) -> usize
+    requires { ⌜ (v < cap) × (48 ≤ b) × (b ≤ 57) ⌝ }
+    ensures { λ r. ⌜ r ≡ v * 10 + (b - 48) ⌝ }
+{
+    v * 10 + (b as usize - 48)
+}
+
+// The number at a place with the byte x after it, in a text that was judged before: its bytes are not judged again. Three digits a turn.
 pub fn known_field_at(s: &[u8], at: usize, x: u8) -> Found
     requires { ⌜ (x < 48) × Known (field x) (now s) at ⌝ }
     ensures { λ r. ⌜ NumberRead (field x (drop at (now (s .entry)))) (now (s .entry)) at (r .value) (r .next) ⌝ }
@@ -192,8 +200,22 @@ pub fn known_field_at(s: &[u8], at: usize, x: u8) -> Found
     let mut v: usize = 0;
     let mut i = at;
     while s[i] != x {
-        v = v * 10 + (s[i] - 48) as usize;
-        i += 1;
+        let a = with_digit(v, s[i]);
+        if s[i + 1] == x {
+            return Found {
+                value: a,
+                next: i + 2,
+            };
+        }
+        let b = with_digit(a, s[i + 1]);
+        if s[i + 2] == x {
+            return Found {
+                value: b,
+                next: i + 3,
+            };
+        }
+        v = with_digit(b, s[i + 2]);
+        i += 3;
     }
     Found {
         value: v,

@@ -43,15 +43,17 @@ pub fn channel_parts(levels: &[u8], degrees: &[u8], sums: &mut [u8])
     }
 }
 
-// The contribution of every message, by its byte.
+// The contribution of every message, by its byte: that of a minus level is the opposite of the plus level's, 128 before.
 pub fn contributions() -> [i32; 256]
     ensures { λ r. ⌜ r ≡ tabulate (λ b. Nodes.contribution 1 (levelOf b)) 256 ⌝ }
 {
     let mut parts = [0i32; 256];
-    let mut b: usize = 0;
-    while b < 256 {
-        parts[b] = contribution(b as u8, 1);
-        b += 1;
+    let mut m: usize = 0;
+    while m < 128 {
+        let x = (2 * m + 1) as i32;
+        parts[m] = x;
+        parts[m + 128] = -x;
+        m += 1;
     }
     parts
 }

@@ -1,4 +1,4 @@
--- What decode gives, lent enough memory, as the printed text.
+-- What decode gives of a graph within the program's limits, lent enough memory, as the printed text.
 use mathlib.Core.Path.{_≡_, refl, sym, ap, ap₂, _∙_}
 use mathlib.Core.Bool.{true}
 use mathlib.Core.List.{List, map}
@@ -8,7 +8,7 @@ use borrow.Author.Tests.{le-leb}
 use lib.ListN.{length, take, drop, length-map}
 use lib.Seq.{take-at}
 use Rattle.rules.specs.Ranges.{one}
-use Rattle.rules.specs.Graphs.{Graph}
+use Rattle.rules.specs.Graphs.{Graph, programLimits}
 use Rattle.rules.specs.Sequence.{Scheme, state, begun, next, iterated, stop, final, report}
 use Rattle.rules.specs.Refusals.{orElse}
 use Rattle.rules.specs.declared.Refusal.{Refusal}
@@ -19,7 +19,10 @@ use Rattle.rules.proofs.Ranges.{length-tabulate}
 use Rattle.decoder.specs.declared.Decoded.{Decoded}
 use Rattle.decoder.specs.declared.Decoded.the-variants.{Ran, Refused}
 use Rattle.decoder.specs.declared.Room.{Room}
-use Rattle.decoder.specs.Decoding.{Frame, Memory, roomOf, enough, graph, scheme, frameJudged, decodeJudged, decoded, memoryAfter, Decodes}
+use Rattle.graph.specs.Judging.{graphJudged}
+use Rattle.graph.specs.Calls.{Old}
+use Rattle.decoder.specs.Decoding.{Frame, Memory, roomOf, enough, graph, scheme, frameJudged, decodeJudged, decodeFinds, decoded, memoryAfter, Decodes}
+use Rattle.decoder.proofs.Accepting.{as-before}
 use Rattle.printing.specs.Texts.{reportText, refusalText, longest, Prints}
 use Rattle.program.specs.Answering.{judgedText, frameText}
 use Rattle.printing.proofs.Parts.{prints-as}
@@ -39,30 +42,36 @@ none-short : (j : Judged) → orElse j Judgement.Admitted ≡ j
 none-short Judgement.Admitted = refl
 none-short (Judgement.Refused r) = refl
 
-pub record Lent (F : Frame) (m : Room) : Type 0 where
+pub record Lent (F : Frame) (d : ℕ) (m : Room) : Type 0 where
+  pub old : Old (graph F) d
   pub levels : F .variables ≤ m .levels
   pub variableMessages : graph F .entries ≤ m .«variable_messages»
   pub checkMessages : graph F .entries ≤ m .«check_messages»
   pub sums : 4 * F .variables ≤ m .sums
   pub bits : F .variables ≤ m .bits
 
-lent-judged : (F : Frame) (m : Room) → Lent F m → decodeJudged F m ≡ frameJudged F
+-- what the definitions of before find, at the program's limits
+abbrev found : Frame → Judged
+found F = frameJudged F (graphJudged programLimits (graph F))
+
+lent-judged : (F : Frame) (d : ℕ) (m : Room) → Lent F d m → decodeFinds F d m ≡ found F
 unfolding decodeJudged
-lent-judged F m l =
-    let e : enough (F .variables) (graph F .entries) m ≡ true
+lent-judged F d m l =
+    as-before F d m (l .old) ∙
+    (let e : enough (F .variables) (graph F .entries) m ≡ true
     = rw (le-leb _ _ (l .levels), le-leb _ _ (l .variableMessages), le-leb _ _ (l .checkMessages), le-leb _ _ (l .sums), le-leb _ _ (l .bits)) in
-    rw e (none-short (frameJudged F))
+    rw e (none-short (found F)))
 
-module _ {F : Frame} {M M′ : Memory} {d : Decoded} (w : Decodes F M M′ d) (l : Lent F (roomOf M)) where
-  answer-is : d ≡ decoded F (frameJudged F)
-  answer-is = w .answer ∙ ap (decoded F) (lent-judged F (roomOf M) l)
+module _ {F : Frame} {M M′ : Memory} {x x′ : List ℕ} {d : Decoded} (w : Decodes F M M′ x x′ d) (l : Lent F (length x) (roomOf M)) where
+  answer-is : d ≡ decoded F (found F)
+  answer-is = w .answer ∙ ap (decoded F) (lent-judged F (length x) (roomOf M) l)
 
-  memory-is : M′ ≡ memoryAfter F (frameJudged F) M
-  memory-is = w .memory ∙ ap (λ (j : Judged). memoryAfter F j M) (lent-judged F (roomOf M) l)
+  memory-is : M′ ≡ memoryAfter F (found F) M
+  memory-is = w .memory ∙ ap (λ (j : Judged). memoryAfter F j M) (lent-judged F (length x) (roomOf M) l)
 
   frame-refused : {r : Refusal} → d ≡ Refused r → frameText F ≡ refusalText r
   unfolding frameText
-  frame-refused {r} e = go (frameJudged F) (sym answer-is ∙ e)
+  frame-refused {r} e = go (found F) (sym answer-is ∙ e)
     where
       go : (j : Judged) → decoded F j ≡ Refused r → judgedText F j ≡ refusalText r
       go Judgement.Admitted q = let z : _≡_ {A = ℕ} 0 1 = cc in absurd (omega arith)
@@ -70,7 +79,7 @@ module _ {F : Frame} {M M′ : Memory} {d : Decoded} (w : Decodes F M M′ d) (l
 
   frame-ran : {r : Report} → d ≡ Ran r → frameText F ≡ reportText r (take (F .variables) (M′ .bits))
   unfolding frameText
-  frame-ran {r} e = go (frameJudged F) (sym answer-is ∙ e) memory-is
+  frame-ran {r} e = go (found F) (sym answer-is ∙ e) memory-is
     where
       go : (j : Judged) → decoded F j ≡ Ran r → M′ ≡ memoryAfter F j M → judgedText F j ≡ reportText r (take (F .variables) (M′ .bits))
       go Judgement.Admitted q m =

@@ -7,7 +7,7 @@ use borrow.Author.Tests.{le-leb, lt-leb}
 use lib.ListN.{length, take, drop}
 use lib.Seq.{take-at}
 use Rattle.words.specs.Roles.{wide}
-use Rattle.rules.specs.Graphs.{Graph, programLimits}
+use Rattle.rules.specs.Graphs.{Graph, programLimits, fewestVariables, fewestChecks}
 use Rattle.rules.specs.declared.Refusal.{Refusal}
 use Rattle.rules.specs.declared.Refusal.the-variants as Refusals
 use Rattle.words.specs.Words.{table}
@@ -55,8 +55,8 @@ module _ (n : ℕ) (s starts columns : List ℕ) {r : Run} {old now : List ℕ} 
 
 -- the counts and the lists of the graph that was read
 pub record GraphIn (t : List ℕ) (k : Counts) (starts columns : List ℕ) : Type 0 where
-  pub variables : k .variables ≤ programLimits .variables
-  pub checks : k .checks ≤ programLimits .checks
+  pub variables : (fewestVariables ≤ k .variables) × (k .variables ≤ programLimits .variables)
+  pub checks : (fewestChecks ≤ k .checks) × (k .checks ≤ programLimits .checks)
   pub entries : k .entries ≤ programLimits .entries
   pub text : (run : List ℕ) → afterRun (k .variables) (take (wide * (k .checks + 1)) starts) (take (wide * k .entries) columns) (runText (k .variables) run)
       ≡ afterSheet (sheetGiven t) run
@@ -64,17 +64,20 @@ pub record GraphIn (t : List ℕ) (k : Counts) (starts columns : List ℕ) : Typ
 graph-in : (t : List ℕ) (G : Graph) (st co : List ℕ) → sheetGiven t ≡ Sheet.graph G
     → GraphIn t (record { variables = G .variables; checks = G .checks; entries = G .entries }) (Sheet.startsOf (Sheet.graph G) st) (Sheet.columnsOf (Sheet.graph G) co)
 graph-in t G st co e =
-    let a = texts-and-graphs .accepted programLimits t (wide * suc (programLimits .checks)) (wide * programLimits .entries) G e .0 in
-    let s : take (wide * (G .checks + 1)) (table wide (G .start) (suc (G .checks)) ++ drop (wide * suc (G .checks)) st) ≡ table wide (G .start) (suc (G .checks))
+    let s : ℕ = wide * suc (programLimits .checks) in
+    let c : ℕ = wide * programLimits .entries in
+    let a = texts-and-graphs .accepted programLimits t (4 * programLimits .variables) s c G
+    (Calls.same-reading programLimits t (4 * programLimits .variables) s c (Calls.most-enough programLimits t (omega arith)) ∙ e) .0 in
+    let st′ : take (wide * (G .checks + 1)) (table wide (G .start) (suc (G .checks)) ++ drop (wide * suc (G .checks)) st) ≡ table wide (G .start) (suc (G .checks))
     = take-at (table wide (G .start) (suc (G .checks))) (drop (wide * suc (G .checks)) st) (wide * (G .checks + 1)) (length-table wide (G .start) (suc (G .checks)) ∙ omega arith) in
-    let c : take (wide * G .entries) (table wide (G .column) (G .entries) ++ drop (wide * G .entries) co) ≡ table wide (G .column) (G .entries)
+    let co′ : take (wide * G .entries) (table wide (G .column) (G .entries) ++ drop (wide * G .entries) co) ≡ table wide (G .column) (G .entries)
     = take-at (table wide (G .column) (G .entries)) (drop (wide * G .entries) co) (wide * G .entries) (length-table wide (G .column) (G .entries)) in
     record {
-      variables = a .variables .1;
-      checks = a .checks .1;
+      variables = a .variables;
+      checks = a .checks;
       entries = a .entries;
       text =
-          λ run. ap₂ (λ (x y : List ℕ). afterRun (G .variables) x y (runText (G .variables) run)) s c
+          λ run. ap₂ (λ (x y : List ℕ). afterRun (G .variables) x y (runText (G .variables) run)) st′ co′
           ∙ sym (ap (λ (x : Reading). afterSheet x run) e);
     }
 

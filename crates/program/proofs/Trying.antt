@@ -10,7 +10,7 @@ use Rattle.rules.specs.Nodes.{firstMessage, firstBit, others, fromCheck, contri
 use Rattle.rules.specs.Sequence.{signPreserving, begun, sentIn, sent, iterated, next, state, unsatisfiedIn, stop, final, report}
 use Rattle.rules.specs.Refusals.{each}
 use Rattle.words.specs.Words.{word, bytes, table}
-use Rattle.graph.specs.Judging.{spanJudged, graphJudged, countsJudged, startsJudged, columnsJudged, rowsJudged, checkDegreesJudged, variableDegreesJudged}
+use Rattle.graph.specs.Judging.{spanJudged, shapeJudged, graphJudged, countsJudged, startsJudged, columnsJudged, rowsJudged, checkDegreesJudged, variableDegreesJudged}
 use Rattle.channel.specs.Scaling.{positive}
 use Rattle.channel.specs.Quantiser.{wholesBelow, levelFor}
 use Rattle.decoder.specs.Decoding.{frameJudged}
@@ -25,5 +25,5 @@ use Rattle.program.specs.Answering.{frameText, programText}
 use Rattle.program.specs.Trials.{many, trials, passes, TrialsPass}
 
 pub trials-pass : TrialsPass
-unfolding xor mul div lt ofInt ofBits fold but count joined tabulate first byte variableDegree checkOf oddCheck unsatisfied firstMessage firstBit others fromCheck contribution odd extra channelPart share posterior outgoingSum outgoingMagnitude outgoing fromVariable signPreserving begun sentIn sent iterated next state unsatisfiedIn stop final report each word bytes table spanJudged graphJudged countsJudged startsJudged columnsJudged rowsJudged checkDegreesJudged variableDegreesJudged positive wholesBelow levelFor frameJudged digits decimal more number lineText field line fixed rows sheetLines startIn columnIn sheetRead hexDigit hexDigits pattern setting titles scaling settings settingsLine valueLines runLines runText verdictLines reportText refusalText frameText programText many trials passes failures
+unfolding xor mul div lt ofInt ofBits fold but count joined tabulate first byte variableDegree checkOf oddCheck unsatisfied firstMessage firstBit others fromCheck contribution odd extra channelPart share posterior outgoingSum outgoingMagnitude outgoing fromVariable signPreserving begun sentIn sent iterated next state unsatisfiedIn stop final report each word bytes table spanJudged shapeJudged graphJudged countsJudged startsJudged columnsJudged rowsJudged checkDegreesJudged variableDegreesJudged positive wholesBelow levelFor frameJudged digits decimal more number lineText field line fixed rows sheetLines startIn columnIn sheetRead hexDigit hexDigits pattern setting titles scaling settings settingsLine valueLines runLines runText verdictLines reportText refusalText frameText programText many trials passes failures
 trials-pass = refl

@@ -13,6 +13,7 @@ use Rattle.rules.specs.declared.Refusal.the-variants.{Count, RunText}
 use Rattle.rules.specs.declared.Judged.{Judged}
 use Rattle.rules.specs.declared.Judged.the-variants as Judgement
 use Rattle.words.specs.Words.{table}
+use Rattle.graph.specs.Judging.{graphJudged}
 use Rattle.decoder.specs.Decoding.{Frame, graph, scheme, frameJudged}
 use Rattle.decoder.specs.Frames.{frame}
 use Rattle.sheet.specs.Reading as Sheet
@@ -21,13 +22,13 @@ use Rattle.run_text.specs.Reading as Run
 use Rattle.run_text.specs.Reading.{largestInput, runText}
 use Rattle.printing.specs.Texts.{reportText, refusalText, longest}
 
--- 'Then decode's': its refusals, but for 6, since enough memory is lent; or the report and the bits of the run.
+-- 'Then decode's': its refusals, but for both 6, since enough memory is lent; or the report and the bits of the run.
 abbrev pub judgedText : Frame → Judged → List ℕ
 judgedText F Judgement.Admitted = reportText (report (graph F) (scheme F) (F .asked .limit)) (map one (final (graph F) (scheme F) (F .asked .limit) .bits))
 judgedText F (Judgement.Refused r) = refusalText r
 
 unfoldable pub frameText : Frame → List ℕ
-frameText F = judgedText F (frameJudged F)
+frameText F = judgedText F (frameJudged F (graphJudged programLimits (graph F)))
 
 -- '14, run text oversized (0), else the first line that is of other form, missing, extra or without LF (its line).'
 abbrev pub afterRun : ℕ → List ℕ → List ℕ → Run.RunText → List ℕ
@@ -40,7 +41,7 @@ afterSheet (Sheet.turned r) run = refusalText r
 afterSheet (Sheet.graph G) run =
     afterRun (G .variables) (table wide (G .start) (suc (G .checks))) (table wide (G .column) (G .entries)) (runText (G .variables) run)
 
--- What the sheet gives, into lists that hold those of every admitted graph.
+-- What the sheet gives under 'the old limits', into lists that hold those of every graph that they admit.
 abbrev pub sheetGiven : List ℕ → Sheet.Reading
 sheetGiven sheet = sheetRead programLimits sheet (wide * suc (programLimits .checks)) (wide * programLimits .entries)
 

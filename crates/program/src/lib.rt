@@ -1,8 +1,11 @@
 // The program's whole answer, as a function of the bytes of the sheet and of the run text.
-ghost use Prim.Native.Nat.{_/_, _≤_};
+ghost use mathlib.Core.Path.{_≡_};
+ghost use Prim.Native.Nat.{_≤_};
 ghost use lib.ListN.{length};
-ghost use Rattle.words.specs.Roles.{wide};
+ghost use Rattle.words.specs.Roles.{graphOf};
 ghost use Rattle.rules.specs.Graphs.{programLimits};
+ghost use Rattle.rules.specs.declared.Judged.the-variants as Judgement;
+ghost use Rattle.graph.specs.Judging.{countsJudged};
 ghost use Rattle.decoder.specs.Frames.{frame};
 ghost use Rattle.run_text.specs.Reading.{runText};
 ghost use Rattle.printing.specs.Texts.{longest, Prints};
@@ -25,9 +28,10 @@ fn decode_answer(
     asked: Parameters,
     out: &mut [u8],
 ) -> usize
-    requires { ⌜ (n ≤ programLimits .variables) × (length (now columns) / wide ≤ programLimits .entries) × (longest ≤ length (now out)) ⌝ }
+    requires { ⌜ (countsJudged programLimits (graphOf n (now starts) (now columns)) ≡ Judgement.Admitted) × (longest ≤ length (now out)) ⌝ }
     ensures { λ r. ⌜ Prints longest (frameText (frame n (now (starts .entry)) (now (columns .entry)) (now (values .entry)) asked)) (now (out .entry)) (now (out .exit)) r ⌝ }
 {
+    let mut degrees = [0u8; 4 * rules::PROGRAM_VARIABLES];
     let mut levels = [0u8; rules::PROGRAM_VARIABLES];
     let mut variable_messages = [0u8; rules::PROGRAM_ENTRIES];
     let mut check_messages = [0u8; rules::PROGRAM_ENTRIES];
@@ -39,6 +43,7 @@ fn decode_answer(
         columns,
         values,
         asked,
+        &mut degrees,
         &mut levels,
         &mut variable_messages,
         &mut check_messages,
@@ -53,7 +58,7 @@ fn decode_answer(
 
 // Reads the run text, and goes on to decode.
 fn run_answer(n: usize, starts: &[u8], columns: &[u8], run: &[u8], out: &mut [u8]) -> usize
-    requires { ⌜ (n ≤ programLimits .variables) × (length (now columns) / wide ≤ programLimits .entries) × (longest ≤ length (now out)) ⌝ }
+    requires { ⌜ (countsJudged programLimits (graphOf n (now starts) (now columns)) ≡ Judgement.Admitted) × (longest ≤ length (now out)) ⌝ }
     ensures { λ r. ⌜ Prints longest (afterRun n (now (starts .entry)) (now (columns .entry)) (runText n (now (run .entry)))) (now (out .entry)) (now (out .exit)) r ⌝ }
 {
     let mut values = [0u8; 4 * rules::PROGRAM_VARIABLES];

@@ -5,7 +5,7 @@ use Prim.Native.Nat.{ℕ, suc, _+_, _-_, _≤_, _<_}
 use lib.Dec.{eqb, leb, ltb}
 use Rattle.rules.specs.Ranges.{fold, count, first}
 
--- 'Variables are numbered 0 to n-1, checks 0 to m-1. Two u16 lists hold the graph: m+1 row starts, and E columns in check order.'
+-- 'Variables are numbered 0 to n-1, checks 0 to m-1. Two .. lists hold the graph: m+1 row starts, and E columns in check order.'
 pub record Graph : Type 0 where
   pub variables : ℕ  -- n
   pub checks : ℕ  -- m
@@ -33,11 +33,12 @@ pub record Limits : Type 0 where
   pub checkDegree : ℕ
   pub variableDegree : ℕ
 
--- 'Admitted: n from 2 to 8,192; m from 1 to 8,192; E at most 32,768; check degree 2 to 64; variable degree 1 to 32.'
+-- Document 02, item 9: 'admit n and m to 1,000,000 and E to 4,000,000 in lent graphs and in sheets'; 'check degree 2 to 64; variable degree 1 to 32'
+-- as before.
 abbrev pub limits : Limits
-limits = record { variables = 8192; checks = 8192; entries = 32768; checkDegree = 64; variableDegree = 32 }
+limits = record { variables = 1_000_000; checks = 1_000_000; entries = 4_000_000; checkDegree = 64; variableDegree = 32 }
 
--- The limits of the program's sheets.
+-- 'The program keeps .. the old limits': 'n from 2 to 8,192; m from 1 to 8,192; E at most 32,768'.
 abbrev pub programLimits : Limits
 programLimits = record { variables = 8192; checks = 8192; entries = 32768; checkDegree = 64; variableDegree = 32 }
 
@@ -78,7 +79,7 @@ pub record Wider (L M : Limits) : Type 0 where
   pub checkDegree : M .checkDegree ≡ L .checkDegree
   pub variableDegree : M .variableDegree ≡ L .variableDegree
 
--- Admitted by this document.
+-- Admitted in a lent graph or a sheet.
 abbrev pub Admitted : Graph → Type 0
 Admitted G = AdmittedWithin limits G
 

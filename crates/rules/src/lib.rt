@@ -6,13 +6,13 @@ ghost use Rattle.rules.specs.Refusals.{paper};
 // The limits of a graph: `limits` of specs/Graphs, and the least numbers beside it.
 pub const FEWEST_VARIABLES: usize = 2;
 
-pub const MOST_VARIABLES: usize = 8192;
+pub const MOST_VARIABLES: usize = 1_000_000;
 
 pub const FEWEST_CHECKS: usize = 1;
 
-pub const MOST_CHECKS: usize = 8192;
+pub const MOST_CHECKS: usize = 1_000_000;
 
-pub const MOST_ENTRIES: usize = 32768;
+pub const MOST_ENTRIES: usize = 4_000_000;
 
 pub const LEAST_CHECK_DEGREE: usize = 2;
 

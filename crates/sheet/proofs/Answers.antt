@@ -10,9 +10,9 @@ use Rattle.lines.specs.Numbers.{digits, decimal, more, number}
 use Rattle.lines.specs.Lines.{lineText, linesText, field, line, fixed}
 use Rattle.sheet_text.specs.Texts.{sheetOf, rowEntries, entriesOf, sheetText}
 use Rattle.sheet_text.specs.Reading.{rows, sheetLines, startIn, columnIn}
-use Rattle.sheet.specs.Reading.{sheetRead, sheetReadIn}
+use Rattle.sheet.specs.Reading.{sheetReadIn}
 use Rattle.sheet.specs.Trials.{trials, told, writtenAs, passes, TrialsPass}
 
 pub trials-pass : TrialsPass
-unfolding fold count joined tabulate variableDegree each checkDegreesJudged variableDegreesJudged digits decimal more number lineText linesText field line fixed sheetOf rowEntries entriesOf sheetText rows sheetLines startIn columnIn bytes table sheetRead sheetReadIn trials told writtenAs passes failures
+unfolding fold count joined tabulate variableDegree each checkDegreesJudged variableDegreesJudged digits decimal more number lineText linesText field line fixed sheetOf rowEntries entriesOf sheetText rows sheetLines startIn columnIn bytes table sheetReadIn trials told writtenAs passes failures
 trials-pass = refl

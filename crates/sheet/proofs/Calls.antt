@@ -1,23 +1,25 @@
--- The whole call: from the lines of a sheet under limits to what follows them, and to a list of degrees that is always long enough.
-use mathlib.Core.Path.{_≡_, refl, sym, ap, _∙_}
+-- The whole call: from the lines of a sheet under limits to what follows them; and a list of degrees that is long enough.
+use mathlib.Core.Path.{_≡_, refl, sym, ap, _∙_, subst}
 use mathlib.Core.List.{List, []}
 use Prim.Native.Nat.{ℕ, _*_, _≤_}
 use native.Mathlib.Omega.{arith}
 use borrow.Author.Tests.{le-leb}
 use lib.ListN.{length, drop}
-use Rattle.rules.specs.Graphs.{Graph, Limits, limits}
+use Rattle.rules.specs.Graphs.{Graph, Limits, limits, programLimits}
 use Rattle.rules.specs.declared.Refusal.{Refusal}
 use Rattle.rules.specs.declared.Judged.{Judged}
 use Rattle.rules.specs.declared.Judged.the-variants as Judgement
 use Rattle.graph.specs.Judging.{checkDegreesJudged, variableDegreesJudged}
+use Rattle.graph.proofs.Wider.{program-wider}
 use Rattle.lines.specs.Lines.{pair}
 use Rattle.sheet_text.specs.Reading.{Lines, refused, lines, rows, sheetLines}
-use Rattle.sheet_text.specs.Scanning.{counted, within, UpTo, LinesAt}
+use Rattle.sheet_text.specs.Scanning.{counted, within, largestCounts, UpTo, LinesAt}
 use Rattle.sheet_text.specs.declared.Counts.{Counts}
 use Rattle.sheet_text.proofs.Sheets.{rows-read, rows-told, sheet-told, counts-told}
-use Rattle.sheet.specs.Reading.{Reading, afterLinesIn, unlessRefused, readJudged, readLines, readLinesIn, sheetRead, sheetReadIn, degreesIn, degreesOf, answerOf, startsOf, columnsOf, ReadAs, ReadInto, JudgedInto}
+use Rattle.sheet_text.proofs.Wider.{lines-alike}
+use Rattle.sheet.specs.Reading.{Reading, afterLines, afterLinesIn, unlessRefused, readJudged, readLines, sheetRead, sheetReadIn, degreesIn, degreesOf, answerOf, startsOf, columnsOf, ReadAs, ReadInto, JudgedInto}
 use Rattle.sheet.specs.Storing.{linesGraph, linesFrom, graphFrom, EntriesAt, AfterLines, Finished}
-use Rattle.sheet.specs.Theorems.{SameReading}
+use Rattle.sheet.specs.Theorems.{LongEnough, SameReading, SheetsAsBefore}
 use Rattle.sheet.specs.declared.Sheet.{Sheet}
 use Rattle.sheet.specs.declared.Sheet.the-variants as Answer
 
@@ -92,25 +94,46 @@ module _ {most : Counts} (u : UpTo most limits) {t : List ℕ} {k : Counts} {at 
     degrees = f .degrees ∙ sym (degrees-same d);
   }
 
+-- ---- under the limits of a sheet
+
+module _ {k : Counts} (e : k ≡ largestCounts) where
+  pub largest-up : UpTo k limits
+  largest-up = record {
+    variables = omega (arith, ap (λ (x : Counts). x .variables) e);
+    checks = omega (arith, ap (λ (x : Counts). x .checks) e);
+    entries = omega (arith, ap (λ (x : Counts). x .entries) e);
+  }
+
+  pub read-all : {t : List ℕ} {r : Sheet} {d d′ s s′ c c′ : List ℕ} → ReadInto (within k) t r d d′ s s′ c c′ → ReadInto limits t r d d′ s s′ c c′
+  read-all {t} {r} {d} {d′} {s} {s′} {c} {c′} w = subst (λ x. ReadInto (within x) t r d d′ s s′ c c′) e w
+
+  pub judged-all : {t : List ℕ} {r : Judged} {d d′ : List ℕ} {s c : ℕ} → JudgedInto (within k) t r d d′ s c → JudgedInto limits t r d d′ s c
+  judged-all {t} {r} {d} {d′} {s} {c} w = subst (λ x. JudgedInto (within x) t r d d′ s c) e w
+
 -- ---- a list of degrees that is long enough
 
 pub same-reading : SameReading
 unfolding sheetRead sheetReadIn
 same-reading L t d s c l = go (sheetLines L t) refl
   where
-    go : (x : Lines) → sheetLines L t ≡ x → readLinesIn L x d s c ≡ readLines L x s c
+    go : (x : Lines) → sheetLines L t ≡ x → readLines (λ G. afterLinesIn L G d s c) x ≡ readLines (λ G. afterLines L G s c) x
     go (refused r) e = refl
-    go (lines k ps) e = rw (le-leb (4 * k .first) d (omega (arith, counts-told L k (sheet-told t k ps e .1 .counts) .0 .1)))
+    go (lines k ps) e = rw (le-leb (4 * k .first) d (l k ps e))
+
+-- a list for the most variables that L allows
+pub most-enough : (L : Limits) (t : List ℕ) {d : ℕ} → 4 * L .variables ≤ d → LongEnough L t d
+most-enough L t l k ps e = omega (arith, counts-told L k (sheet-told t k ps e .1 .counts) .0 .1)
+
+pub sheets-as-before : SheetsAsBefore
+unfolding sheetRead sheetReadIn checkDegreesJudged variableDegreesJudged
+sheets-as-before t d s c h l = rw (lines-alike programLimits limits program-wider t h) (same-reading programLimits t d s c l)
 
 module _ {L : Limits} {t : List ℕ} where
   pub read-as : {r : Sheet} {d d′ s s′ c c′ : List ℕ} → 4 * L .variables ≤ length d → ReadInto L t r d d′ s s′ c c′ → ReadAs (sheetRead L t (length s) (length c)) r s s′ c c′
   read-as {d} {s} {c} l f =
-      let x = same-reading L t (length d) (length s) (length c) l in
+      let x = same-reading L t (length d) (length s) (length c) (most-enough L t l) in
       record {
         answer = f .answer ∙ ap answerOf x;
         starts = f .starts ∙ ap (λ (y : Reading). startsOf y s) x;
         columns = f .columns ∙ ap (λ (y : Reading). columnsOf y c) x;
       }
-
-  pub judged-as : {r : Judged} {d d′ : List ℕ} {s c : ℕ} → 4 * L .variables ≤ length d → JudgedInto L t r d d′ s c → r ≡ readJudged (sheetRead L t s c)
-  judged-as {d} {s} {c} l f = f .judged ∙ ap readJudged (same-reading L t (length d) s c l)

@@ -1,7 +1,7 @@
 -- A pass over the entries' lines: what is known after some of them, one line on, and after the last.
 use mathlib.Core.Path.{_≡_, refl, sym, ap, _∙_, subst}
 use mathlib.Core.List.{List, [], _∷_, _++_, append-assoc, append-nil}
-use Prim.Native.Nat.{ℕ, suc, _+_, _≤_, _<_}
+use Prim.Native.Nat.{ℕ, _+_, _≤_, _<_}
 use native.Mathlib.Omega.{arith}
 use borrow.Author.Tests.{lt-ltb, le-ltb}
 use lib.ListN.{length, drop, length-append}
@@ -17,19 +17,13 @@ use Rattle.sheet_text.proofs.Order.{Fits, Rising}
 use Rattle.sheet_text.proofs.Sheets.{rows-told}
 use Rattle.sheet_text.proofs.Entries.{start-append, start-none}
 use Rattle.sheet.specs.Storing.{EntriesAt}
+use Rattle.sheet.specs.Passing.{At, Pass}
 
--- after k of the entries ps, at place i; the rows from `filled` on have not begun
-pub record At (c : Pair) (ps : List Pair) (s : List ℕ) (i k filled : ℕ) : Type 0 where
-  pub done : List Pair
-  pub rest : List Pair
-  pub low : Pair
-  pub all : ps ≡ done ++ rest
-  pub text : drop i s ≡ linesText rest
-  pub got : length done ≡ k
-  pub rising : Rising c low rest
-  pub near : filled ≤ suc (low .first)
-  pub high : filled ≤ suc (c .second)
-  pub past : (d : ℕ) → filled ≤ d → startIn done d ≡ k
+-- the entries rise
+pub entries-rising : {s : List ℕ} {k : Counts} {from : ℕ} (h : EntriesAt s k from) → Rising (counted k) (pair 0 0) (h .entries)
+entries-rising {s} {k} {from} h =
+    let w = rows-told (counted k) (k .entries) 4 (pair 0 0) [] (drop from s) (counted k) (h .entries) (h .are) in
+    subst (Rising (counted k) (pair 0 0)) (sym (w .all)) (w .rising)
 
 pub pass-none : {s : List ℕ} {k : Counts} {from filled : ℕ} (h : EntriesAt s k from) → filled ≤ 1 → At (counted k) (h .entries) s from 0 filled
 unfolding startIn
@@ -42,7 +36,7 @@ pass-none {s} {k} {from} {filled} h l =
       all = refl;
       text = w .text ∙ ap linesText (sym (w .all));
       got = refl;
-      rising = subst (Rising (counted k) (pair 0 0)) (sym (w .all)) (w .rising);
+      rising = entries-rising h;
       near = omega arith;
       high = omega arith;
       past = λ d l. refl;
@@ -122,10 +116,6 @@ module _ {c : Pair} {ps : List Pair} {s : List ℕ} {i k filled : ℕ} (q : At c
       over = q .all ∙ ap (λ (x : List Pair). q .done ++ x) (none (q .rest) (omega (arith, total))) ∙ append-nil (q .done)
 
 -- ---- the same at the numbers of the code
-
-pub record Pass (s : List ℕ) (counts : Counts) (from i k filled : ℕ) : Type 0 where
-  pub held : EntriesAt s counts from
-  pub at : At (counted counts) (held .entries) s i k filled
 
 module _ {s : List ℕ} {counts : Counts} {from i k filled : ℕ} (q : Pass s counts from i k filled) where
   abbrev ps : List Pair

@@ -12,7 +12,8 @@ use Rattle.lines.specs.Places.{LineRead}
 use Rattle.sheet_text.specs.Reading.{Lines, startIn, columnIn}
 use Rattle.sheet_text.specs.declared.Counts.{Counts}
 use Rattle.sheet.specs.Storing.{linesGraph, graphFrom, EntriesAt, Stores}
-use Rattle.sheet.proofs.Passing.{Pass, pass-none, pass-more}
+use Rattle.sheet.specs.Passing.{Pass}
+use Rattle.sheet.proofs.Passing.{pass-none, pass-more}
 
 -- the starts below place `filled` are made
 pub record Stage (s : List ℕ) (counts : Counts) (from : ℕ) (starts₀ starts columns₀ columns : List ℕ) (i k filled : ℕ) : Type 0 where

@@ -1,9 +1,10 @@
 -- Texts and admitted graphs determine each other, under any limits.
 use mathlib.Core.Path.{_≡_, refl, sym, ap, ap₂, _∙_, subst}
 use mathlib.Core.List.{List}
-use Prim.Native.Nat.{ℕ, suc, _+_, _*_, _≤_, _<_}
+use Prim.Native.Nat.{ℕ, suc, _+_, _*_, _<_}
 use native.Mathlib.Omega.{arith}
-use borrow.Author.Tests.{le-leb}
+use borrow.Author.Tests.{le-leb, leb-true}
+use lib.Dec.{leb}
 use Rattle.words.specs.Roles.{wide}
 use Rattle.rules.specs.Ranges.{joined, tabulate}
 use Rattle.rules.specs.Graphs.{Graph, Limits, AdmittedWithin, checkDegree}
@@ -13,17 +14,17 @@ use Rattle.rules.specs.declared.Refusal.the-variants.{Buffer}
 use Rattle.rules.specs.declared.Judged.{Judged}
 use Rattle.rules.specs.declared.Judged.the-variants as Judgement
 use Rattle.rules.proofs.Ranges.{joined-ext, tabulate-ext}
-use Rattle.rules.proofs.Judging.{orElse-left, orElse-right}
+use Rattle.rules.proofs.Judging.{orElse-left, orElse-right, unless-true, and-left, and-right}
 use Rattle.rules.proofs.Rows.{rowed, row-entries}
-use Rattle.graph.specs.Judging.{checkDegreesJudged, variableDegreesJudged}
+use Rattle.graph.specs.Judging.{checkDegreesJudged, variableDegreesJudged, degreesJudged}
 use Rattle.graph.proofs.Parts.{check-degrees-admitted, variable-degrees-admitted}
 use Rattle.lines.specs.Lines.{Pair, pair}
 use Rattle.sheet_text.specs.Texts.{sheetOf, rowEntries, entriesOf, sheetText}
 use Rattle.sheet_text.specs.Reading.{Lines, refused, lines, sheetLines, startIn, columnIn, graphIn}
 use Rattle.sheet_text.proofs.Sheets.{sheet-read, sheet-told}
 use Rattle.sheet_text.proofs.Graphs.{entries-length, starts-back, columns-back, entries-lined, entries-back}
-use Rattle.sheet.specs.Reading.{turned, graph, roomFor, degreesJudged, afterLines, unlessRefused, readLines, sheetRead}
-use Rattle.sheet.specs.Theorems.{Same, TextsAndGraphs}
+use Rattle.sheet.specs.Reading.{turned, graph, roomFor, roomForDegrees, afterLines, afterLinesIn, unlessRefused, readLines, sheetReadIn}
+use Rattle.sheet.specs.Theorems.{Same, Suffice, TextsAndGraphs}
 use Rattle.sheet.proofs.Degrees.{same-check-degree, same-check-degrees, same-variable-degrees, sheet-admitted}
 
 turned-not : {r : Refusal} {G : Graph} → turned r ≡ graph G → ⊥
@@ -31,26 +32,40 @@ turned-not {r} {G} e = let z : _≡_ {A = ℕ} 0 1 = cc in absurd (omega arith)
 
 -- ---- a text that is accepted
 
-accepted : (L : Limits) (t : List ℕ) (s c : ℕ) (G : Graph) → sheetRead L t s c ≡ graph G → AdmittedWithin L G × (t ≡ sheetText G)
-unfolding sheetRead sheetText
-accepted L t s c G e = go (sheetLines L t) refl e
+-- the buffers suffice where none is refused
+suffice : (L : Limits) (G : Graph) (d s c : ℕ) → afterLinesIn L G d s c ≡ Judgement.Admitted → Suffice G d s c
+suffice L G d s c h =
+    let a = leb (wide * suc (G .checks)) s in
+    let b = leb (wide * G .entries) c in
+    let list = unless (roomForDegrees G d) Buffer in
+    let lists = unless (roomFor G s c) Buffer in
+    let room = unless-true (roomFor G s c) Buffer (orElse-right (degreesJudged L G) lists (orElse-right list (afterLines L G s c) h)) in
+    record {
+      degrees = leb-true (4 * G .variables) d (unless-true (roomForDegrees G d) Buffer (orElse-left list (afterLines L G s c) h));
+      starts = leb-true (wide * suc (G .checks)) s (and-left a b room);
+      columns = leb-true (wide * G .entries) c (and-right a b room);
+    }
+
+accepted : (L : Limits) (t : List ℕ) (d s c : ℕ) (G : Graph) → sheetReadIn L t d s c ≡ graph G → AdmittedWithin L G × (t ≡ sheetText G) × Suffice G d s c
+unfolding sheetReadIn sheetText
+accepted L t d s c G e = go (sheetLines L t) refl e
   where
-    end : (k : Pair) (ps : List Pair) → sheetLines L t ≡ lines k ps → (j : Judged) → afterLines L (graphIn k ps) s c ≡ j
-        → unlessRefused j (graphIn k ps) ≡ graph G → AdmittedWithin L G × (t ≡ sheetText G)
+    end : (k : Pair) (ps : List Pair) → sheetLines L t ≡ lines k ps → (j : Judged) → afterLinesIn L (graphIn k ps) d s c ≡ j
+        → unlessRefused j (graphIn k ps) ≡ graph G → AdmittedWithin L G × (t ≡ sheetText G) × Suffice G d s c
     end k ps x (Judgement.Refused r) p q = absurd (turned-not q)
     end k ps x Judgement.Admitted p q =
         let H : Graph = graphIn k ps in
         let told = sheet-told t k ps x in
-        let degrees = orElse-left (degreesJudged L H) (unless (roomFor H s c) Buffer) p in
+        let degrees = orElse-left (degreesJudged L H) (unless (roomFor H s c) Buffer) (orElse-right (unless (roomForDegrees H d) Buffer) (afterLines L H s c) p) in
         let a = sheet-admitted k ps (told .1) (orElse-left (checkDegreesJudged L H) (variableDegreesJudged L H) degrees)
         (orElse-right (checkDegreesJudged L H) (variableDegreesJudged L H) degrees) in
         let same : H ≡ G = cc in
-        subst (λ (F : Graph). AdmittedWithin L F × (t ≡ sheetText F)) same
-        (a, told .0 ∙ ap (sheetOf k) (sym (entries-back k ps (told .1 .rising) (rowed a))))
+        subst (λ (F : Graph). AdmittedWithin L F × (t ≡ sheetText F) × Suffice F d s c) same
+        (a, told .0 ∙ ap (sheetOf k) (sym (entries-back k ps (told .1 .rising) (rowed a))), suffice L H d s c p)
 
-    go : (x : Lines) → sheetLines L t ≡ x → readLines L x s c ≡ graph G → AdmittedWithin L G × (t ≡ sheetText G)
+    go : (x : Lines) → sheetLines L t ≡ x → readLines (λ H. afterLinesIn L H d s c) x ≡ graph G → AdmittedWithin L G × (t ≡ sheetText G) × Suffice G d s c
     go (refused r) x q = absurd (turned-not q)
-    go (lines k ps) x q = end k ps x (afterLines L (graphIn k ps) s c) refl q
+    go (lines k ps) x q = end k ps x (afterLinesIn L (graphIn k ps) d s c) refl q
 
 -- ---- the text of an admitted graph
 
@@ -71,17 +86,18 @@ module _ (L : Limits) (G : Graph) (a : AdmittedWithin L G) where
     columns = columns-back G (rowed a);
   }
 
-  back : (s c : ℕ) → wide * suc (G .checks) ≤ s → wide * G .entries ≤ c → (H : Graph) × (sheetRead L (sheetText G) s c ≡ graph H) × Same H G
-  unfolding sheetRead
-  back s c hs hc =
+  back : (d s c : ℕ) → Suffice G d s c → (H : Graph) × (sheetReadIn L (sheetText G) d s c ≡ graph H) × Same H G
+  unfolding sheetReadIn
+  back d s c room =
       let H : Graph = graphIn counts (entriesOf G) in (
         H,
         rw (
           lines-back,
+          le-leb (4 * G .variables) d (room .degrees),
           same-check-degrees L H G same-back ∙ check-degrees-admitted L G (a .checkDegrees),
           same-variable-degrees L H G same-back ∙ variable-degrees-admitted L G (a .variableDegrees),
-          le-leb (wide * suc (G .checks)) s hs,
-          le-leb (wide * H .entries) c (omega (arith, same-back .entries)),
+          le-leb (wide * suc (G .checks)) s (room .starts),
+          le-leb (wide * H .entries) c (omega (arith, same-back .entries, room .columns)),
         ),
         same-back,
       )

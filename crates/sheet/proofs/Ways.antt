@@ -17,10 +17,10 @@ use Rattle.rules.proofs.Judging.{orElse-right, unless-true, and-left, and-right
 use Rattle.words.specs.Roles.{wide, degreeAt}
 use Rattle.degrees.specs.Judging.{variablesJudged}
 use Rattle.graph.proofs.Lending.{variables-off}
-use Rattle.graph.specs.Judging.{variableDegreesJudged}
+use Rattle.graph.specs.Judging.{variableDegreesJudged, degreesJudged}
 use Rattle.sheet_text.specs.Reading.{Lines}
 use Rattle.sheet_text.specs.declared.Counts.{Counts}
-use Rattle.sheet.specs.Reading.{graph, roomFor, roomForDegrees, degreesJudged, afterLines, degreesIn, answerOf}
+use Rattle.sheet.specs.Reading.{graph, roomFor, roomForDegrees, afterLines, degreesIn, answerOf}
 use Rattle.sheet.specs.Storing.{linesGraph, graphFrom, EntriesAt, Stores, CountedInto, AfterLines, Finished}
 use Rattle.sheet.specs.declared.Sheet.the-variants as Answer
 

@@ -1,4 +1,6 @@
 pub mod Reading
 pub mod Storing
+pub mod Passing
+pub mod Adding
 pub mod Theorems
 pub mod Trials

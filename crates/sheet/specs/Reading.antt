@@ -1,4 +1,4 @@
--- Document 01, 'Read a sheet': the answer on any text, and every lent byte afterwards.
+-- Document 01, 'Read a sheet', and document 02, item 9: the answer on any text, and every lent byte afterwards.
 use mathlib.Core.Path.{_≡_}
 use mathlib.Core.Bool.{Bool, _&&_, cond}
 use mathlib.Core.List.{List, _++_}
@@ -13,7 +13,7 @@ use Rattle.rules.specs.declared.Refusal.the-variants.{Buffer}
 use Rattle.rules.specs.declared.Judged.{Judged}
 use Rattle.rules.specs.declared.Judged.the-variants as Judgement
 use Rattle.words.specs.Words.{table}
-use Rattle.graph.specs.Judging.{checkDegreesJudged, variableDegreesJudged}
+use Rattle.graph.specs.Judging.{degreesJudged}
 use Rattle.sheet_text.specs.Reading.{Lines, refused, lines, sheetLines, graphIn}
 use Rattle.sheet.specs.declared.Sheet.{Sheet}
 use Rattle.sheet.specs.declared.Sheet.the-variants as Answer
@@ -27,25 +27,34 @@ pub data Reading : Type 0 where
 abbrev pub roomFor : Graph → ℕ → ℕ → Bool
 roomFor G s c = leb (wide * suc (G .checks)) s && leb (wide * G .entries) c
 
--- 'After the last line 5, as above': lowest check, else m + lowest variable.
-abbrev pub degreesJudged : Limits → Graph → Judged
-degreesJudged L G = orElse (checkDegreesJudged L G) (variableDegreesJudged L G)
-
--- 'Then 6 with place 0.'
+-- 'After the last line 5, as above', 'then 6 with place 0.'
 abbrev pub afterLines : Limits → Graph → ℕ → ℕ → Judged
 afterLines L G s c = orElse (degreesJudged L G) (unless (roomFor G s c) Buffer)
+
+-- Whether a list of d bytes holds the degrees of n variables, four bytes each.
+abbrev pub roomForDegrees : Graph → ℕ → Bool
+roomForDegrees G d = leb (4 * G .variables) d
+
+-- The list of degrees: 'a shorter one gets 6 directly before 5.'
+abbrev pub afterLinesIn : Limits → Graph → ℕ → ℕ → ℕ → Judged
+afterLinesIn L G d s c = orElse (unless (roomForDegrees G d) Buffer) (afterLines L G s c)
 
 abbrev pub unlessRefused : Judged → Graph → Reading
 unlessRefused Judgement.Admitted G = graph G
 unlessRefused (Judgement.Refused r) G = turned r
 
-abbrev pub readLines : Limits → Lines → ℕ → ℕ → Reading
-readLines L (refused r) s c = turned r
-readLines L (lines k ps) s c = unlessRefused (afterLines L (graphIn k ps) s c) (graphIn k ps)
+-- What the lines give, where `after` is what is refused after the last.
+abbrev pub readLines : (Graph → Judged) → Lines → Reading
+readLines after (refused r) = turned r
+readLines after (lines k ps) = unlessRefused (after (graphIn k ps)) (graphIn k ps)
 
--- What reading the text gives under limits L, where lists of s and c bytes are lent.
+-- What reading the text gives under limits L, where lists of d, s and c bytes are lent for degrees, starts and columns.
+unfoldable pub sheetReadIn : Limits → List ℕ → ℕ → ℕ → ℕ → Reading
+sheetReadIn L t d s c = readLines (λ G. afterLinesIn L G d s c) (sheetLines L t)
+
+-- The same where the list of degrees is long enough.
 unfoldable pub sheetRead : Limits → List ℕ → ℕ → ℕ → Reading
-sheetRead L t s c = readLines L (sheetLines L t) s c
+sheetRead L t s c = readLines (λ G. afterLines L G s c) (sheetLines L t)
 
 -- What is refused of it.
 abbrev pub readJudged : Reading → Judged
@@ -58,7 +67,7 @@ abbrev pub answerOf : Reading → Sheet
 answerOf (turned r) = Answer.Refused r
 answerOf (graph G) = Answer.Read (record { variables = G .variables; checks = G .checks; entries = G .entries })
 
--- 'Two u16 lists hold the graph: m+1 row starts, and E columns.' Bytes past them do not change.
+-- 'Two .. lists hold the graph: m+1 row starts, and E columns.' Bytes past them do not change.
 abbrev pub startsOf : Reading → List ℕ → List ℕ
 startsOf (turned r) old = old
 startsOf (graph G) old = table wide (G .start) (suc (G .checks)) ++ drop (wide * suc (G .checks)) old
@@ -67,31 +76,13 @@ abbrev pub columnsOf : Reading → List ℕ → List ℕ
 columnsOf (turned r) old = old
 columnsOf (graph G) old = table wide (G .column) (G .entries) ++ drop (wide * G .entries) old
 
--- 'Every refusal carries a number and a place, and changes no lent byte.'
+-- 'Every refusal carries a number and a place, and changes no lent byte' of starts and columns.
 pub record ReadAs (x : Reading) (r : Sheet) (s s′ c c′ : List ℕ) : Type 0 where
   pub answer : r ≡ answerOf x
   pub starts : s′ ≡ startsOf x s
   pub columns : c′ ≡ columnsOf x c
 
--- ---- with a lent list of degrees, document 02, item 9
-
--- Whether a list of d bytes holds the degrees of n variables, four bytes each.
-abbrev pub roomForDegrees : Graph → ℕ → Bool
-roomForDegrees G d = leb (4 * G .variables) d
-
--- 'A shorter one gets 6 directly before 5.'
-abbrev pub afterLinesIn : Limits → Graph → ℕ → ℕ → ℕ → Judged
-afterLinesIn L G d s c = orElse (unless (roomForDegrees G d) Buffer) (afterLines L G s c)
-
-abbrev pub readLinesIn : Limits → Lines → ℕ → ℕ → ℕ → Reading
-readLinesIn L (refused r) d s c = turned r
-readLinesIn L (lines k ps) d s c = unlessRefused (afterLinesIn L (graphIn k ps) d s c) (graphIn k ps)
-
--- What reading the text gives, where lists of d, s and c bytes are lent.
-unfoldable pub sheetReadIn : Limits → List ℕ → ℕ → ℕ → ℕ → Reading
-sheetReadIn L t d s c = readLinesIn L (sheetLines L t) d s c
-
--- 'It holds the degrees after every call that came as far as 5, refused or not, and is unchanged otherwise.'
+-- The list of degrees: 'it holds the degrees after every call that came as far as 5, refused or not, and is unchanged otherwise.'
 abbrev pub degreesIn : Graph → List ℕ → List ℕ
 degreesIn G old =
     cond (roomForDegrees G (length old)) (table 4 (variableDegree G) (G .variables) ++ drop (4 * G .variables) old) old

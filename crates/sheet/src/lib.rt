@@ -4,11 +4,12 @@ ghost use mathlib.Core.List.{List};
 ghost use Prim.Native.Nat.{ℕ, suc, _+_, _*_, _/_, _^_, _≤_, _<_};
 ghost use lib.ListN.{length};
 ghost use Rattle.rules.specs.Graphs.{limits};
-ghost use Rattle.words.specs.Words.{stored};
 ghost use Rattle.words.specs.Roles.{wide};
 ghost use Rattle.words.proofs.Filling.{Filled};
-ghost use Rattle.sheet_text.specs.Scanning.{within, UpTo};
-ghost use Rattle.sheet.specs.Reading.{sheetRead, readJudged, ReadAs, ReadInto, JudgedInto};
+ghost use Rattle.sheet_text.specs.Scanning.{within, UpTo, largestCounts};
+ghost use Rattle.sheet.specs.Reading.{ReadInto, JudgedInto};
+ghost use Rattle.sheet.specs.Passing.{Ahead, ReadsOn};
+ghost use Rattle.sheet.specs.Adding.{Addable, AddsOn};
 ghost use Rattle.sheet.specs.Storing.{graphFrom, EntriesAt, Stores, lowestPassed, GoesOn, CountedInto, AfterLines, Finished};
 use rules::Judged;
 use rules::Refusal;
@@ -91,6 +92,56 @@ fn go_on(rows: Rows, c: usize, k: usize) -> Rows
     }
 }
 
+// A block of lines that was read: the rows up to its last, and the place after it.
+struct Passed {
+    rows: Rows,
+    next: usize,
+}
+
+// Reads `size` lines from entry k on: their variables go into the block.
+fn read_block(text: &[u8], at: usize, k: usize, size: usize, rows: Rows, block: &mut [u8]) -> Passed
+    requires { ⌜ Ahead (now text) rows at k size × (wide * size ≤ length (now block)) ⌝ }
+    ensures { λ r. ⌜ ReadsOn (now (text .entry)) rows at k (r .rows) (r .next) (now (block .exit)) size size ⌝ }
+{
+    let mut so_far = rows;
+    let mut i = at;
+    let mut j: usize = 0;
+    while j < size {
+        let line = lines::known_line_at(text, i);
+        words::put_column(block, j, line.second);
+        so_far = go_on(so_far, line.first, k + j);
+        i = line.next;
+        j += 1;
+    }
+    Passed {
+        rows: so_far,
+        next: i,
+    }
+}
+
+// Adds one to the degree of each variable in the block.
+fn add_block(block: &[u8], size: usize, degrees: &mut [u8])
+    requires { ⌜ Addable (now block) (now degrees) size × (wide * size ≤ length (now block)) ⌝ }
+    ensures { λ _. ⌜ AddsOn (now (block .entry)) size (now (degrees .entry)) (now (degrees .exit)) size ⌝ }
+{
+    let mut j: usize = 0;
+    while j < size {
+        degrees::add_one(degrees, words::column(block, j));
+        j += 1;
+    }
+}
+
+// How many lines are read before their variables are counted: the list of degrees can be far larger than a cache, and numbers of it that
+// are asked for one right after the other are fetched together.
+const BLOCK: usize = 64;
+
+// The size of the next block, where so many lines are left.
+fn block_size(left: usize) -> usize
+    ensures { λ r. ⌜ (r ≤ left) × (r ≤ 64) × (0 < left → 0 < r) ⌝ }
+{
+    if left < BLOCK { left } else { BLOCK }
+}
+
 // The pass that counts: the degrees of all variables, and what is refused of the checks'.
 fn count_entries(text: &[u8], at: usize, counts: Counts, degrees: &mut [u8]) -> Judged
     requires { ⌜ EntriesAt (now text) counts at ⌝ }
@@ -105,12 +156,14 @@ fn count_entries(text: &[u8], at: usize, counts: Counts, degrees: &mut [u8]) -> 
         check: 0,
         first: 0,
     };
+    let mut block = [0u8; words::WIDE * BLOCK];
     while k < counts.entries {
-        let line = lines::known_line_at(text, i);
-        degrees::add_one(degrees, line.second);
-        rows = go_on(rows, line.first, k);
-        i = line.next;
-        k += 1;
+        let size = block_size(counts.entries - k);
+        let passed = read_block(text, i, k, size, rows, &mut block);
+        add_block(&block, size, degrees);
+        rows = passed.rows;
+        i = passed.next;
+        k += size;
     }
     let all = go_on(rows, counts.checks, k);
     if all.low < counts.checks {
@@ -154,7 +207,7 @@ fn judge_lines(
 }
 
 // Number and place of what `read_within` refuses for lists of so many bytes; the list of degrees as that leaves it.
-pub fn judge_within(
+fn judge_within(
     most: Counts,
     text: &[u8],
     degrees: &mut [u8],
@@ -215,30 +268,29 @@ pub fn read_within(
     }
 }
 
-// ---- with a list of degrees of its own
+// ---- under the limits of a sheet
 
-// Number and place of what `read` refuses for lists of so many bytes.
-pub fn judge_read(text: &[u8], starts: usize, columns: usize) -> Judged
-    ensures { λ r. ⌜ r ≡ readJudged (sheetRead limits (now (text .entry)) starts columns) ⌝ }
+// The largest counts of a sheet.
+fn most() -> Counts
+    ensures { λ r. ⌜ r ≡ largestCounts ⌝ }
 {
-    let most = Counts {
+    Counts {
         variables: rules::MOST_VARIABLES,
         checks: rules::MOST_CHECKS,
         entries: rules::MOST_ENTRIES,
-    };
-    let mut degrees = [0u8; 4 * rules::MOST_VARIABLES];
-    judge_within(most, text, &mut degrees, starts, columns)
+    }
 }
 
-// Reads a sheet: the refusals in their order, and only then the lists.
-pub fn read(text: &[u8], starts: &mut [u8], columns: &mut [u8]) -> Sheet
-    ensures { λ r. ⌜ ReadAs (sheetRead limits (now (text .entry)) (length (now (starts .entry))) (length (now (columns .entry)))) r (now (starts .entry)) (now (starts .exit)) (now (columns .entry)) (now (columns .exit)) ⌝ }
+// Number and place of what `read` refuses for lists of so many bytes; the list of degrees as that leaves it.
+pub fn judge_read(text: &[u8], degrees: &mut [u8], starts: usize, columns: usize) -> Judged
+    ensures { λ r. ⌜ JudgedInto limits (now (text .entry)) r (now (degrees .entry)) (now (degrees .exit)) starts columns ⌝ }
 {
-    let most = Counts {
-        variables: rules::MOST_VARIABLES,
-        checks: rules::MOST_CHECKS,
-        entries: rules::MOST_ENTRIES,
-    };
-    let mut degrees = [0u8; 4 * rules::MOST_VARIABLES];
-    read_within(most, text, &mut degrees, starts, columns)
+    judge_within(most(), text, degrees, starts, columns)
+}
+
+// Reads a sheet: the refusals in their order, and only then the lists; counts the variables' degrees in the list lent for them.
+pub fn read(text: &[u8], degrees: &mut [u8], starts: &mut [u8], columns: &mut [u8]) -> Sheet
+    ensures { λ r. ⌜ ReadInto limits (now (text .entry)) r (now (degrees .entry)) (now (degrees .exit)) (now (starts .entry)) (now (starts .exit)) (now (columns .entry)) (now (columns .exit)) ⌝ }
+{
+    read_within(most(), text, degrees, starts, columns)
 }

@@ -15,7 +15,7 @@ use Rattle.rules.proofs.Judging.{and-left, and-right, and-both}
 use Rattle.lines.specs.Numbers.{Front, other, value}
 use Rattle.lines.specs.Lines.{Pair, pair, line, fixed}
 use Rattle.sheet_text.specs.Texts.{heading, titles}
-use Rattle.sheet_text.specs.Reading.{Lines, refused, lines, formed, below, countsFit, after, entryJudged, rows, sheetLines}
+use Rattle.sheet_text.specs.Reading.{Lines, formed, below, countsFit, after, entryJudged, rows, sheetLines}
 use Rattle.sheet_text.specs.Theorems.{Counted, LinesAlike}
 
 -- ---- the combinators

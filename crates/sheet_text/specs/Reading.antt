@@ -56,7 +56,7 @@ module _ (c : Pair) where
       orElse (unless (ltb (p .first) (c .second) && ltb (p .second) (c .first)) (Range l)) (unless (notBefore low p) (Order l))
 
   -- Line l and those below it: k entries more are allowed, after the entries `done`, the next not before `low`.
-  -- '2, a 32,769th entry, before its form.'
+  -- '2, .. a 32,769th entry, before its form', which 'moves to the 4,000,001st'.
   unfoldable pub rows : ℕ → ℕ → Pair → List Pair → List ℕ → Lines
   rows zero l low done t = atEnd t (lines c done) (refused (Count l))
   rows (suc k) l low done t =

@@ -23,6 +23,10 @@ within most = record {
   variableDegree = limits .variableDegree;
 }
 
+-- The largest counts of a sheet.
+abbrev pub largestCounts : Counts
+largestCounts = record { variables = limits .variables; checks = limits .checks; entries = limits .entries }
+
 -- No count is above its limit.
 pub record UpTo (k : Counts) (L : Limits) : Type 0 where
   pub variables : k .variables ≤ L .variables

@@ -8,7 +8,7 @@ ghost use Rattle.lines.specs.Lines.{pair, lineText, linesText};
 ghost use Rattle.words.specs.Roles.{wide, graphOf};
 ghost use Rattle.lines.specs.Putting.{Put};
 ghost use Rattle.sheet_text.specs.Texts.{rowEntries, entriesOf, sheetText};
-ghost use Rattle.sheet_writer.specs.Writing.{writeJudged, WrittenAs};
+ghost use Rattle.sheet_writer.specs.Writing.{JudgesWrite, WritesInto};
 use lines::put_fixed;
 use lines::put_number;
 use rules::Judged;
@@ -107,11 +107,18 @@ fn sheet_length(n: usize, starts: &[u8], columns: &[u8]) -> usize
     17 + counts + 15 + rows_length(n, starts, columns)
 }
 
-// Whether a graph is admitted and its sheet has room: number and place of what `write` refuses for a buffer of so many bytes.
-pub fn judge_write(n: usize, starts: &[u8], columns: &[u8], room: usize) -> Judged
-    ensures { λ r. ⌜ r ≡ writeJudged (graphOf n (now (starts .entry)) (now (columns .entry))) room ⌝ }
+// Whether a graph is admitted and its sheet has room: number and place of what `write` refuses for a buffer of so many bytes; the list of
+// degrees as that leaves it.
+pub fn judge_write(
+    n: usize,
+    starts: &[u8],
+    columns: &[u8],
+    degrees: &mut [u8],
+    room: usize,
+) -> Judged
+    ensures { λ r. ⌜ JudgesWrite (graphOf n (now (starts .entry)) (now (columns .entry))) room r (now (degrees .entry)) (now (degrees .exit)) ⌝ }
 {
-    let j = graph::check(n, starts, columns);
+    let j = graph::check(n, starts, columns, degrees);
     if let Judged::Refused(r) = j {
         return Judged::Refused(r);
     }
@@ -179,11 +186,17 @@ fn put_sheet(text: &mut [u8], n: usize, starts: &[u8], columns: &[u8]) -> usize
     put_rows(text, entries, n, starts, columns)
 }
 
-// Writes the sheet of a graph.
-pub fn write(n: usize, starts: &[u8], columns: &[u8], text: &mut [u8]) -> Written
-    ensures { λ r. ⌜ WrittenAs (writeJudged (graphOf n (now (starts .entry)) (now (columns .entry))) (length (now (text .entry)))) (graphOf n (now (starts .entry)) (now (columns .entry))) r (now (text .entry)) (now (text .exit)) ⌝ }
+// Writes the sheet of a graph; counts the variables' degrees in the list lent for them.
+pub fn write(
+    n: usize,
+    starts: &[u8],
+    columns: &[u8],
+    degrees: &mut [u8],
+    text: &mut [u8],
+) -> Written
+    ensures { λ r. ⌜ WritesInto (graphOf n (now (starts .entry)) (now (columns .entry))) r (now (degrees .entry)) (now (degrees .exit)) (now (text .entry)) (now (text .exit)) ⌝ }
 {
-    let j = judge_write(n, starts, columns, text.len());
+    let j = judge_write(n, starts, columns, degrees, text.len());
     if let Judged::Refused(r) = j {
         return Written::Refused(r);
     }

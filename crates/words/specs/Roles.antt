@@ -1,4 +1,4 @@
--- The lists of document 01 by their roles: starts and columns are u16, sums i32, values f32, bits bytes.
+-- The lists of documents 01 and 02 by their roles: starts, columns and degrees are u32, sums i32, values f32, bits bytes.
 use mathlib.Core.Bool.{Bool}
 use mathlib.Core.List.{List}
 use Prim.Native.Nat.{ℕ, _-_, _*_, _/_}
@@ -11,9 +11,9 @@ use mir.Val.{toZ, ofZ}
 use Rattle.rules.specs.Graphs.{Graph}
 use Rattle.words.specs.Words.{word, table}
 
--- 'Two u16 lists hold the graph': so many bytes is a row start or a column.
+-- 'Starts and columns becoming 32-bit' (document 02, item 9): so many bytes is a row start or a column.
 abbrev pub wide : ℕ
-wide = 2
+wide = 4
 
 -- Row start i, and the column of entry e.
 abbrev pub startAt : List ℕ → ℕ → ℕ

@@ -9,14 +9,7 @@ ghost use Rattle.words.specs.Words.{word, stored};
 ghost use Rattle.words.specs.Roles.{wide, startAt, columnAt, degreeAt, sumAt, patternAt, valueAt};
 
 // How many bytes a row start or a column is: `wide` of specs/Roles.
-pub const WIDE: usize = 2;
-
-// The number of two bytes.
-fn join16(a: u8, b: u8) -> u16
-    ensures { λ r. ⌜ r ≡ a + 256 * b ⌝ }
-{
-    a as u16 + 256 * (b as u16)
-}
+pub const WIDE: usize = 4;
 
 // The number of four bytes.
 fn join32(a: u8, b: u8, c: u8, d: u8) -> u32
@@ -25,29 +18,12 @@ fn join32(a: u8, b: u8, c: u8, d: u8) -> u32
     a as u32 + 256 * (b as u32 + 256 * (c as u32 + 256 * (d as u32)))
 }
 
-// The number in the two bytes from byte k on.
-pub fn word16(b: &[u8], k: usize) -> u16
-    requires { ⌜ k + 2 ≤ length (now b) ⌝ }
-    ensures { λ r. ⌜ r ≡ word 2 (now (b .entry)) k ⌝ }
-{
-    join16(b[k], b[k + 1])
-}
-
 // The number in the four bytes from byte k on.
 pub fn word32(b: &[u8], k: usize) -> u32
     requires { ⌜ k + 4 ≤ length (now b) ⌝ }
     ensures { λ r. ⌜ r ≡ word 4 (now (b .entry)) k ⌝ }
 {
     join32(b[k], b[k + 1], b[k + 2], b[k + 3])
-}
-
-// Puts x into the two bytes from byte k on.
-pub fn store16(b: &mut [u8], k: usize, x: u16)
-    requires { ⌜ k + 2 ≤ length (now b) ⌝ }
-    ensures { λ _. ⌜ now (b .exit) ≡ stored 2 (now (b .entry)) k x ⌝ }
-{
-    b[k] = (x % 256) as u8;
-    b[k + 1] = (x / 256 % 256) as u8;
 }
 
 // Puts x into the four bytes from byte k on.
@@ -91,7 +67,7 @@ pub fn start(starts: &[u8], i: usize) -> usize
     requires { ⌜ i < length (now starts) / wide ⌝ }
     ensures { λ r. ⌜ (r ≡ startAt (now (starts .entry)) i) × (r < 256 ^ wide) ⌝ }
 {
-    word16(starts, WIDE * i) as usize
+    word32(starts, WIDE * i) as usize
 }
 
 // The column of entry e.
@@ -99,7 +75,7 @@ pub fn column(columns: &[u8], e: usize) -> usize
     requires { ⌜ e < length (now columns) / wide ⌝ }
     ensures { λ r. ⌜ (r ≡ columnAt (now (columns .entry)) e) × (r < 256 ^ wide) ⌝ }
 {
-    word16(columns, WIDE * e) as usize
+    word32(columns, WIDE * e) as usize
 }
 
 // Makes x the row start i.
@@ -107,7 +83,7 @@ pub fn put_start(starts: &mut [u8], i: usize, x: usize)
     requires { ⌜ (i < length (now starts) / wide) × (x < 256 ^ wide) ⌝ }
     ensures { λ _. ⌜ now (starts .exit) ≡ stored wide (now (starts .entry)) (wide * i) x ⌝ }
 {
-    store16(starts, WIDE * i, x as u16);
+    store32(starts, WIDE * i, x as u32);
 }
 
 // Makes x the column of entry e.
@@ -115,7 +91,7 @@ pub fn put_column(columns: &mut [u8], e: usize, x: usize)
     requires { ⌜ (e < length (now columns) / wide) × (x < 256 ^ wide) ⌝ }
     ensures { λ _. ⌜ now (columns .exit) ≡ stored wide (now (columns .entry)) (wide * e) x ⌝ }
 {
-    store16(columns, WIDE * e, x as u16);
+    store32(columns, WIDE * e, x as u32);
 }
 
 // The degree of variable v, of a list of degrees.

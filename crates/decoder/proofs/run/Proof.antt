@@ -1,46 +1,50 @@
-use borrow.Author.Needs.{needs}
-use mathlib.Core.Path.{_∙_}
+use mathlib.Core.Path.{refl, sym, _∙_}
+use mathlib.Core.Bool.{cond, _||_}
+use mathlib.Core.Logic.{⊎-elim}
 use Prim.Native.Nat.{_-_, _<_}
 use native.Mathlib.Omega.{arith}
+use lib.Dec.{leb}
 use lib.ListN.{length}
 use Rattle.rules.specs.Levels.{largest}
 use Rattle.rules.proofs.Own.{largest-within}
 use Rattle.words.specs.Roles.{graphOf}
 use Rattle.nodes.specs.Memory.{levelIn}
 use Rattle.decoder.specs.Steps.{offsetsIn, rulesUnder, Lists}
-use Rattle.decoder.proofs.Running.{Going, going-none, going-over, going-more, below, sum-small, sent-holds, next-holds, lists-parts, lists-messages, sized-again}
+use Rattle.decoder.proofs.Running.{Going, going-none, going-over, going-more, below, sum-small, sent-holds, next-holds, lists-parts, lists-none, lists-made, lists-kept, lists-now, lists-next, sized-again}
+use borrow.Author.Needs.{needs}
 use Rattle.decoder.proofs.run.Statement.{statement}
 use Rattle.decoder.proofs.run.Tie as tie
 
 abbrev Inv-loop : tie.InvT-loop
-Inv-loop s n starts columns levels degrees variable-messages₀ check-messages₀ sums₀ bits₀ parts messages t₀ variable-messages check-messages sums bits t =
+Inv-loop s n starts columns levels degrees variable-messages₀ check-messages₀ sums₀ bits₀ parts messages₀ t₀ variable-messages check-messages sums bits messages t =
     Going (graphOf n starts columns) (rulesUnder s (graphOf n starts columns) (levelIn levels)) (s .limit) variable-messages₀ check-messages₀ sums₀ bits₀ variable-messages check-messages sums bits t
+    × Lists (largest (s .message)) (offsetsIn s) (t - 1) parts messages
 
 abbrev μ-loop : tie.MeasureT-loop
-μ-loop s n starts columns levels degrees variable-messages₀ check-messages₀ sums₀ bits₀ parts messages t₀ variable-messages check-messages sums bits t =
+μ-loop s n starts columns levels degrees variable-messages₀ check-messages₀ sums₀ bits₀ parts messages₀ t₀ variable-messages check-messages sums bits messages t =
     s .limit - t
 
 low : (s : tie.Start Inv-loop μ-loop) → largest (s .args .s .message) < 8
 low s = omega (arith, largest-within (s .args .s .message) (omega (arith, s .pre .settings .message, s .pre .settings .channel)))
 
--- the lists of the run
-lists : (c : tie.At-loop Inv-loop μ-loop) → (let s = c .before .before .before .before .before .before .before .before .before .before .before .args .s in Lists (largest (s .message)) (offsetsIn s) (c .before .before .contributions .result) (c .before .outgoing-messages .result))
-lists c = record { contributions = c .before .before .contributions .ensures; outgoings = c .before .outgoing-messages .ensures }
+-- the lists of the run, before the last step
+lists : (c : tie.Joined1 Inv-loop μ-loop) → (let s = c .before .before .before .before .before .before .before .before .before .before .before .before .before .before .args .s in let t = c .before .before .before .before .loop .t in Lists (largest (s .message)) (offsetsIn s) (cond (c .before .before .is-codeword .result || leb (s .limit) t) 0 t) (c .before .before .before .before .before .contributions .result) (c .if1 .messages))
+lists c = let l = c .before .before .before .before .loop in ⊎-elim (λ w. lists-made (l .inv .1) (w .2 ∙ w .1 .ensures)) (λ w. lists-kept (c .before .before .is-codeword .result || leb (c .before .before .before .before .before .before .before .before .before .before .before .before .before .before .args .s .limit) (l .t)) (l .t) (l .inv .1) (w .0 .left) (w .1)) (c .if1 .came)
 
 contributions-requires : tie.Need-contributions-requires Inv-loop μ-loop
 contributions-requires c κs = search needs
 
-outgoing-messages-requires : tie.Need-outgoing-messages-requires Inv-loop μ-loop
-outgoing-messages-requires c κs = let s = c .before .before .before .before .before .before .before .before .before .pre .settings in omega (arith, s .message, s .channel, s .offsets)
-
 loop-holds : tie.Need-loop-holds Inv-loop μ-loop
-loop-holds c = going-none _ _ _ (c .before .before .before .before .before .before .before .before .before .before .pre .holds)
+loop-holds c = (going-none _ _ _ (c .before .before .before .before .before .before .before .before .before .pre .holds), lists-none (c .contributions .ensures) refl)
 
 is-codeword-requires : tie.Need-is-codeword-requires Inv-loop μ-loop
-is-codeword-requires c κs = let z = c .before .before .before .before .before .before .before .before .before .before .before .before .pre .sized in (z .admitted, omega (arith, c .before .loop .inv .bits, z .bits))
+is-codeword-requires c κs = let z = c .before .before .before .before .before .before .before .before .before .before .before .pre .sized in (z .admitted, omega (arith, c .before .loop .inv .0 .bits, z .bits))
 
 cast-over : tie.Need-cast-over Inv-loop μ-loop
 cast-over c = search needs
+
+outgoing-messages-requires : tie.Need-outgoing-messages-requires Inv-loop μ-loop
+outgoing-messages-requires c κs = let s = c .before .before .before .before .before .before .before .before .before .before .before .before .before .before .pre .settings in omega (arith, s .message, s .channel, s .offsets)
 
 sends-requires : tie.Need-sends-requires Inv-loop μ-loop
 sends-requires c κs = search needs
@@ -49,66 +53,67 @@ slice-aggregate-send : tie.Need-slice-aggregate-send Inv-loop μ-loop
 slice-aggregate-send c = search needs
 
 slice-aggregate-send-2 : tie.Need-slice-aggregate-send-2 Inv-loop μ-loop
-slice-aggregate-send-2 c = search needs
+slice-aggregate-send-2 c = sym (lists (c .before .before .before .before .before) .long)
 
 send-requires : tie.Need-send-requires Inv-loop μ-loop
-send-requires c κs =
-    let s = c .before .before .before .before .before .before .before .before .before .before .before .before .before .before .before .before .before .before .before .before in
-    let l = c .before .before .before .before .before .before .before .before .before .loop .inv in
+send-requires c κs = let s = c .before .before .before .before .before .before .before .before .before .before .before .before .before .before .before .before .before .before .before .before in
+    let l = c .before .before .before .before .before .before .before .before .before .before .loop .inv .0 in
     let z = s .pre .sized in (
-      (omega (arith, l .checkMessages, z .checkMessages), omega (arith, l .checkMessages, z .checkMessages, l .variableMessages, z .variableMessages), lists-parts (lists (c .before .before .before .before .before .before .before .before .before)), lists-messages (lists (c .before .before .before .before .before .before .before .before .before))),
+      (omega (arith, l .checkMessages, z .checkMessages), omega (arith, l .checkMessages, z .checkMessages, l .variableMessages, z .variableMessages), lists-parts (c .before .before .before .before .before .before .before .before .before .before .loop .inv .1), lists (c .before .before .before .before .before .before) .long),
       (
         (λ e h. omega (arith, l .sums, z .sums, z .admitted .within e (omega (arith, l .checkMessages, z .checkMessages)))),
-        (λ v h. sum-small _ (z .admitted) _ _ (low s) (s .args .levels .now) (c .before .before .before .before .before .before .before .before .before .loop .t) (l .holds) v (omega (arith, l .sums, z .sums))),
+        (λ v h. sum-small _ (z .admitted) _ _ (low s) (s .args .levels .now) (c .before .before .before .before .before .before .before .before .before .before .loop .t) (l .holds) v (omega (arith, l .sums, z .sums))),
       ),
     )
 
 odd-checks-requires : tie.Need-odd-checks-requires Inv-loop μ-loop
-odd-checks-requires c κs = let z = c .before .before .before .before .before .before .before .before .before .before .before .before .before .before .before .before .before .before .before .before .before .before .before .before .before .pre .sized in (z .admitted, omega (arith, c .before .before .before .before .before .before .before .before .before .before .before .before .before .before .loop .inv .bits, z .bits))
+odd-checks-requires c κs = let z = c .before .before .before .before .before .before .before .before .before .before .before .before .before .before .before .before .before .before .before .before .before .before .before .before .before .pre .sized in (z .admitted, omega (arith, c .before .before .before .before .before .before .before .before .before .before .before .before .before .before .before .loop .inv .0 .bits, z .bits))
 
 ended-requires : tie.Need-ended-requires Inv-loop μ-loop
 ended-requires c κs = search needs
 
 same-length : tie.Need-same-length Inv-loop μ-loop
-same-length c = c .before .before .before .before .before .before .send .kept .1 .1 .1 .1 .1 .1 .0 ∙ c .before .before .before .before .before .before .before .before .before .before .before .before .before .before .before .before .loop .inv .variableMessages
+same-length c = c .before .before .before .before .before .before .send .kept .1 .1 .1 .1 .1 .1 .0 ∙ c .before .before .before .before .before .before .before .before .before .before .before .before .before .before .before .before .before .loop .inv .0 .variableMessages
 
 same-length-2 : tie.Need-same-length-2 Inv-loop μ-loop
-same-length-2 c = c .before .before .before .before .before .before .before .before .before .before .before .before .before .before .before .before .loop .inv .checkMessages
+same-length-2 c = c .before .before .before .before .before .before .before .before .before .before .before .before .before .before .before .before .before .loop .inv .0 .checkMessages
 
 same-length-3 : tie.Need-same-length-3 Inv-loop μ-loop
-same-length-3 c = c .before .before .before .before .before .before .before .before .before .before .before .before .before .before .before .before .loop .inv .sums
+same-length-3 c = c .before .before .before .before .before .before .before .before .before .before .before .before .before .before .before .before .before .loop .inv .0 .sums
 
 same-length-4 : tie.Need-same-length-4 Inv-loop μ-loop
-same-length-4 c = c .before .before .before .before .before .before .before .before .before .before .before .before .before .before .before .before .loop .inv .bits
+same-length-4 c = c .before .before .before .before .before .before .before .before .before .before .before .before .before .before .before .before .before .loop .inv .0 .bits
 
 returns : tie.Need-returns Inv-loop μ-loop
-returns c = going-over (c .before .before .before .before .before .before .before .before .before .before .before .before .before .before .before .before .loop .inv) (c .before .before .before .before .before .before .before .before .before .before .before .before .before .before .is-codeword .ensures) _ (c .before .before .before .if1 .taken) (c .before .before .before .before .before .before .before .before .before .before .before .before .sends .ensures) (c .before .before .before .before .before .before .send .ensures) (c .before .odd-checks .ensures) (c .ended .ensures)
+returns c = going-over (c .before .before .before .before .before .before .before .before .before .before .before .before .before .before .before .before .before .loop .inv .0) (c .before .before .before .before .before .before .before .before .before .before .before .before .before .before .before .is-codeword .ensures) _ (c .before .before .before .if2 .taken) (c .before .before .before .before .before .before .before .before .before .before .before .before .sends .ensures) (c .before .before .before .before .before .before .send .ensures) (c .before .odd-checks .ensures) (c .ended .ensures)
 
 slice-aggregate-iterate : tie.Need-slice-aggregate-iterate Inv-loop μ-loop
 slice-aggregate-iterate c = search needs
 
 iterate-requires : tie.Need-iterate-requires Inv-loop μ-loop
-iterate-requires c κs =
-    let l = c .before .before .before .before .before .before .before .before .before .before .before .before .before .before .before .before .before .before .loop .inv in
-    (sized-again (c .before .before .before .before .before .before .before .before .before .before .before .before .before .before .before .before .before .before .before .before .before .before .before .before .before .before .before .before .before .pre .sized) (c .before .before .before .before .before .before .before .before .send .kept .1 .1 .1 .1 .1 .1 .0 ∙ l .variableMessages) (l .checkMessages) (l .sums) (l .bits), lists-parts (lists (c .before .before .before .before .before .before .before .before .before .before .before .before .before .before .before .before .before .before)))
+iterate-requires c κs = let l = c .before .before .before .before .before .before .before .before .before .before .before .before .before .before .before .before .before .before .before .loop .inv .0 in
+    (sized-again (c .before .before .before .before .before .before .before .before .before .before .before .before .before .before .before .before .before .before .before .before .before .before .before .before .before .before .before .before .before .pre .sized) (c .before .before .before .before .before .before .before .before .send .kept .1 .1 .1 .1 .1 .1 .0 ∙ l .variableMessages) (l .checkMessages) (l .sums) (l .bits), lists-parts (c .before .before .before .before .before .before .before .before .before .before .before .before .before .before .before .before .before .before .before .loop .inv .1))
 
 add-t : tie.Need-add-t Inv-loop μ-loop
-add-t c = omega (arith, c .before .before .before .before .before .before .before .before .before .before .before .before .before .before .before .before .before .before .before .before .before .before .before .before .before .before .before .before .before .before .before .before .before .before .before .before .pre .settings .limit, below (c .before .before .before .before .before .before .before .before .before .before .before .before .before .before .before .before .before .before .before .before .before .before .before .is-codeword .result) (c .before .before .before .before .before .before .before .before .before .before .before .before .before .before .before .before .before .before .before .before .before .before .before .before .before .before .before .before .before .before .before .before .before .before .before .before .args .s .limit) (c .before .before .before .before .before .before .before .before .before .before .before .before .before .before .before .before .before .before .before .before .before .before .before .before .before .loop .t) (c .before .before .before .before .before .before .before .before .before .before .before .before .if1 .left))
+add-t c = omega (arith, c .before .before .before .before .before .before .before .before .before .before .before .before .before .before .before .before .before .before .before .before .before .before .before .before .before .before .before .before .before .before .before .before .before .before .before .before .pre .settings .limit, below (c .before .before .before .before .before .before .before .before .before .before .before .before .before .before .before .before .before .before .before .before .before .before .before .before .is-codeword .result) (c .before .before .before .before .before .before .before .before .before .before .before .before .before .before .before .before .before .before .before .before .before .before .before .before .before .before .before .before .before .before .before .before .before .before .before .before .args .s .limit) (c .before .before .before .before .before .before .before .before .before .before .before .before .before .before .before .before .before .before .before .before .before .before .before .before .before .before .loop .t) (c .before .before .before .before .before .before .before .before .before .before .before .before .if2 .left))
 
 loop-less : tie.Need-loop-less Inv-loop μ-loop
-loop-less c = omega (arith, below (c .before .before .before .before .before .before .before .before .before .before .before .before .before .before .before .before .before .before .before .before .before .before .before .is-codeword .result) (c .before .before .before .before .before .before .before .before .before .before .before .before .before .before .before .before .before .before .before .before .before .before .before .before .before .before .before .before .before .before .before .before .before .before .before .before .args .s .limit) (c .before .before .before .before .before .before .before .before .before .before .before .before .before .before .before .before .before .before .before .before .before .before .before .before .before .loop .t) (c .before .before .before .before .before .before .before .before .before .before .before .before .if1 .left))
+loop-less c = omega (arith, below (c .before .before .before .before .before .before .before .before .before .before .before .before .before .before .before .before .before .before .before .before .before .before .before .before .is-codeword .result) (c .before .before .before .before .before .before .before .before .before .before .before .before .before .before .before .before .before .before .before .before .before .before .before .before .before .before .before .before .before .before .before .before .before .before .before .before .args .s .limit) (c .before .before .before .before .before .before .before .before .before .before .before .before .before .before .before .before .before .before .before .before .before .before .before .before .before .before .loop .t) (c .before .before .before .before .before .before .before .before .before .before .before .before .if2 .left))
 
 loop-again : tie.Need-loop-again Inv-loop μ-loop
-loop-again c =
-    let s = c .before .before .before .before .before .before .before .before .before .before .before .before .before .before .before .before .before .before .before .before .before .before .before .before .before .before .before .before .before .before .before .before .before .before .before .before in
+loop-again c = let s = c .before .before .before .before .before .before .before .before .before .before .before .before .before .before .before .before .before .before .before .before .before .before .before .before .before .before .before .before .before .before .before .before .before .before .before .before in
     let z = s .pre .sized in
-    let l = c .before .before .before .before .before .before .before .before .before .before .before .before .before .before .before .before .before .before .before .before .before .before .before .before .before .loop in
-    let over = c .before .before .before .before .before .before .before .before .before .before .before .before .if1 .left in
-    going-more (l .inv) (c .before .before .before .before .before .before .before .before .before .before .before .before .before .before .before .before .before .before .before .before .before .before .before .is-codeword .ensures) over (c .before .before .before .before .before .before .before .before .before .before .before .before .before .before .before .send .kept .1 .1 .1 .1 .1 .1 .0)
-    (c .before .before .before .before .before .before .iterate .kept .1 .1 .1 .1 .1 .1 .1 .0) (c .before .before .before .before .before .before .iterate .kept .1 .1 .1 .1 .1 .1 .1 .1 .0) (c .before .before .before .before .before .before .iterate .kept .1 .1 .1 .1 .1 .1 .1 .1 .1 .0)
-    (next-holds _ (z .admitted) _ _ (low s) (s .args .levels .now) (lists (c .before .before .before .before .before .before .before .before .before .before .before .before .before .before .before .before .before .before .before .before .before .before .before .before .before)) (l .t)
-    (sent-holds _ (z .admitted) _ _ (low s) (s .args .levels .now) (lists (c .before .before .before .before .before .before .before .before .before .before .before .before .before .before .before .before .before .before .before .before .before .before .before .before .before)) (l .t) (length (l .check-messages)) (l .inv .checkMessages ∙ z .checkMessages) (l .inv .holds)
-    over (c .before .before .before .before .before .before .before .before .before .before .before .before .before .before .before .before .before .before .before .before .before .sends .ensures) (c .before .before .before .before .before .before .before .before .before .before .before .before .before .before .before .send .ensures)) (c .before .before .before .before .before .before .iterate .ensures))
+    let l = c .before .before .before .before .before .before .before .before .before .before .before .before .before .before .before .before .before .before .before .before .before .before .before .before .before .before .loop in
+    let g = l .inv .0 in
+    let over = c .before .before .before .before .before .before .before .before .before .before .before .before .if2 .left in
+    let m = lists-now (l .t) over (lists (c .before .before .before .before .before .before .before .before .before .before .before .before .before .before .before .before .before .before .before .before .before .before)) in
+    let made = c .before .before .before .before .before .before .iterate .kept in (
+      going-more g (c .before .before .before .before .before .before .before .before .before .before .before .before .before .before .before .before .before .before .before .before .before .before .before .before .is-codeword .ensures) over (c .before .before .before .before .before .before .before .before .before .before .before .before .before .before .before .send .kept .1 .1 .1 .1 .1 .1 .0) (made .1 .1 .1 .1 .1 .1 .1 .0) (made .1 .1 .1 .1 .1 .1 .1 .1 .0) (made .1 .1 .1 .1 .1 .1 .1 .1 .1 .0)
+          (next-holds _ (z .admitted) _ _ (low s) (s .args .levels .now) (l .t) m
+          (sent-holds _ (z .admitted) _ _ (low s) (s .args .levels .now) (l .t) (length (l .check-messages)) m (g .checkMessages ∙ z .checkMessages) (g .holds) over (c .before .before .before .before .before .before .before .before .before .before .before .before .before .before .before .before .before .before .before .before .before .sends .ensures) (c .before .before .before .before .before .before .before .before .before .before .before .before .before .before .before .send .ensures))
+          (c .before .before .before .before .before .before .iterate .ensures)),
+      lists-next (l .t) m,
+    )
 
 pub run-spec : {M : Type 1} → statement M
 run-spec =
@@ -117,10 +122,10 @@ run-spec =
     Inv-loop
     μ-loop
     contributions-requires
-    outgoing-messages-requires
     loop-holds
     is-codeword-requires
     cast-over
+    outgoing-messages-requires
     sends-requires
     slice-aggregate-send
     slice-aggregate-send-2

@@ -1,7 +1,8 @@
 use mathlib.Core.Path.{refl, sym, subst}
+use lib.ListN.{length}
 use Rattle.channel.specs.declared.Scaling.{Scaling}
 use Rattle.channel.specs.declared.Parameters.{Parameters}
-use Rattle.decoder.specs.Decoding.{Frame, Memory, roomOf, decodeJudged}
+use Rattle.decoder.specs.Decoding.{Frame, Memory, roomOf, decodeFinds}
 use Rattle.decoder.specs.Frames.{frame, memory}
 use Rattle.host.specs.Packing.{askedOf, Small}
 use Rattle.host.proofs.Smallness.{decoded-small, host-decodes, host-under}
@@ -22,11 +23,11 @@ decode-requires : tie.Need-decode-requires
 decode-requires c κs = search needs
 
 pack-decoded-requires : tie.Need-pack-decoded-requires
-pack-decoded-requires c κs =
-    let s = c .before .before .before .before .before .before .before .before .before .before .before .before .before .before .before .before .before .before .before .before .before .before .before .before .before in
-    let f : Frame = F s (c .before .before .before .before .before .before .before .before .before .before .before .before .before .before .before .before .scaling-of .result) in
+pack-decoded-requires c κs = let s = c .before .before .before .before .before .before .before .before .before .before .before .before .before .before .before .before .before .before .before .before .before .before .before .before .before .before .before .before .before in
+    let f : Frame = F s (c .before .before .before .before .before .before .before .before .before .before .before .before .before .before .before .before .before .before .before .scaling-of .result) in
     let M : Memory = memory (s .args .levels .now) (s .args .variable-messages .now) (s .args .check-messages .now) (s .args .sums .now) (s .args .bits .now) in
-    subst Small (sym (c .before .before .before .before .before .before .before .before .before .before .decode .ensures .answer)) (decoded-small f (roomOf M) (decodeJudged f (roomOf M)) refl)
+    let d = length (s .args .degrees .now) in
+    subst Small (sym (c .before .before .before .before .before .before .before .before .before .before .before .before .decode .ensures .answer)) (decoded-small f d (roomOf M) (decodeFinds f d (roomOf M)) refl)
 
 same-length : tie.Need-same-length
 same-length c = search needs
@@ -43,8 +44,11 @@ same-length-4 c = search needs
 same-length-5 : tie.Need-same-length-5
 same-length-5 c = search needs
 
+same-length-6 : tie.Need-same-length-6
+same-length-6 c = search needs
+
 returns : tie.Need-returns
-returns c = host-under (F (c .before .before .before .before .before .before .before .before .before .before .before .before .before .before .before .before .before .before .before .before .before .before .before .before .before .before)) (c .before .before .before .before .before .before .before .before .before .before .before .before .before .before .before .before .before .scaling-of .ensures) (host-decodes (c .before .before .before .before .before .before .before .before .before .before .before .decode .ensures) (c .pack-decoded .ensures))
+returns c = host-under (F (c .before .before .before .before .before .before .before .before .before .before .before .before .before .before .before .before .before .before .before .before .before .before .before .before .before .before .before .before .before .before)) (c .before .before .before .before .before .before .before .before .before .before .before .before .before .before .before .before .before .before .before .before .scaling-of .ensures) (host-decodes (c .before .before .before .before .before .before .before .before .before .before .before .before .before .decode .ensures) (c .pack-decoded .ensures))
 
 pub frame-decode-spec : {M : Type 1} → statement M
 frame-decode-spec =
@@ -58,4 +62,5 @@ frame-decode-spec =
     same-length-3
     same-length-4
     same-length-5
+    same-length-6
     returns)

@@ -1,6 +1,9 @@
 use mathlib.Core.Path.{sym}
 use Prim.Native.Nat.{_*_}
 use lib.Seq.{length-take-le}
+use Rattle.rules.specs.Graphs.{programLimits}
+use Rattle.words.specs.Roles.{graphOf}
+use Rattle.graph.proofs.Parts.{Counts, counts-told}
 use Rattle.printing.proofs.Parts.{prints-as}
 use Rattle.program.proofs.Inputs.{run-refused, run-given}
 use native.Mathlib.Omega.{arith}
@@ -8,11 +11,15 @@ use borrow.Author.Needs.{needs}
 use Rattle.program.proofs.run_answer.Statement.{statement}
 use Rattle.program.proofs.run_answer.Tie as tie
 
+-- the counts of the graph
+counts : (s : tie.Start) → Counts programLimits (graphOf (s .args .n) (s .args .starts .now) (s .args .columns .now))
+counts s = counts-told _ (s .pre .0)
+
 slice-aggregate-read : tie.Need-slice-aggregate-read
 slice-aggregate-read c = search needs
 
 read-requires : tie.Need-read-requires
-read-requires c κs = search needs
+read-requires c κs = let k = counts (c .before .before .before .before .before) in (k .variables .1, omega (arith, k .variables .1))
 
 enum-known-x : tie.Need-enum-known-x
 enum-known-x c = search needs
@@ -24,13 +31,13 @@ enum-known-x-2 : tie.Need-enum-known-x-2
 enum-known-x-2 c = search needs
 
 mul-w : tie.Need-mul-w
-mul-w c = search needs
+mul-w c = omega (arith, counts (c .before .before .before .before .before .before .before .before .before .before) .variables .1)
 
 array-share-prefix-values : tie.Need-array-share-prefix-values
-array-share-prefix-values c = search needs
+array-share-prefix-values c = omega (arith, counts (c .before .before .before .before .before .before .before .before .before .before) .variables .1, c .before .before .before .values2 .given)
 
 slice-aggregate-decode-answer : tie.Need-slice-aggregate-decode-answer
-slice-aggregate-decode-answer c = sym (length-take-le (4 * c .before .before .before .before .before .before .before .before .before .before .before .args .n) (c .before .before .before .before .before .read .last .1 .1 .0) (omega (arith, c .before .before .before .before .values2 .given)))
+slice-aggregate-decode-answer c = sym (length-take-le (4 * c .before .before .before .before .before .before .before .before .before .before .before .args .n) (c .before .before .before .before .before .read .last .1 .1 .0) (omega (arith, counts (c .before .before .before .before .before .before .before .before .before .before .before) .variables .1, c .before .before .before .before .values2 .given)))
 
 decode-answer-requires : tie.Need-decode-answer-requires
 decode-answer-requires c κs = search needs

@@ -3,6 +3,7 @@ use Prim.Native.Nat.{_+_, _*_}
 use lib.ListN.{length, take}
 use lib.Seq.{length-take-le}
 use Rattle.words.specs.Roles.{wide}
+use Rattle.graph.proofs.Parts.{counts-admitted}
 use Rattle.printing.proofs.Parts.{prints-as}
 use Rattle.program.proofs.Inputs.{GraphIn, sheet-refused, sheet-graph}
 use native.Mathlib.Omega.{arith}
@@ -63,7 +64,11 @@ slice-aggregate-run-answer-2 : tie.Need-slice-aggregate-run-answer-2
 slice-aggregate-run-answer-2 c = sym (columns-long (c .before .before .before .before .before))
 
 run-answer-requires : tie.Need-run-answer-requires
-run-answer-requires c κs = (graph-read (c .before .before .before .before .before .before) .variables, omega (arith, graph-read (c .before .before .before .before .before .before) .entries, columns-long (c .before .before .before .before .before .before)), omega arith)
+run-answer-requires c κs =
+    let g = graph-read (c .before .before .before .before .before .before) in
+    let starts = starts-long (c .before .before .before .before .before .before) in
+    let columns = columns-long (c .before .before .before .before .before .before) in
+    (counts-admitted _ (record { variables = g .variables; checks = (omega (arith, g .checks .0, starts), omega (arith, g .checks .1, starts)); entries = omega (arith, g .entries, columns) }), omega arith)
 
 same-length : tie.Need-same-length
 same-length c = search needs

@@ -2,7 +2,6 @@ use mathlib.Core.Path.{refl}
 use borrow.Author.Needs.{needs}
 use Rattle.decoder.proofs.step.send.Statement.{statement}
 use Rattle.decoder.proofs.step.send.Tie as tie
-use Rattle.nodes.proofs.variable.variable_nodes.Reads as variable-nodes-reads
 
 variable-nodes-requires : tie.Need-variable-nodes-requires
 variable-nodes-requires c κs = search needs

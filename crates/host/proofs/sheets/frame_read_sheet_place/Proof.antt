@@ -1,5 +1,4 @@
-use mathlib.Core.Path.{ap, _∙_}
-use Rattle.host.specs.Packing.{placeOf}
+use Rattle.host.proofs.SheetAnswers.{tells-line}
 use borrow.Author.Needs.{needs}
 use Rattle.host.proofs.sheets.frame_read_sheet_place.Statement.{statement}
 use Rattle.host.proofs.sheets.frame_read_sheet_place.Tie as tie
@@ -10,8 +9,12 @@ judge-read-requires c κs = search needs
 place-of-requires : tie.Need-place-of-requires
 place-of-requires c κs = search needs
 
+same-length : tie.Need-same-length
+same-length c = search needs
+
 returns : tie.Need-returns
-returns c = c .place-of .ensures ∙ ap placeOf (c .before .judge-read .ensures)
+returns c = tells-line (c .before .before .before .judge-read .ensures) (c .place-of .ensures)
 
 pub frame-read-sheet-place-spec : {M : Type 1} → statement M
-frame-read-sheet-place-spec = tie.close (tie.spec judge-read-requires place-of-requires returns)
+frame-read-sheet-place-spec =
+    tie.close (tie.spec judge-read-requires place-of-requires same-length returns)

@@ -1,5 +1,4 @@
-use mathlib.Core.Path.{ap, _∙_}
-use Rattle.host.specs.Packing.{placeOf}
+use Rattle.host.proofs.SheetAnswers.{tells-place}
 use borrow.Author.Needs.{needs}
 use Rattle.host.proofs.sheets.frame_write_sheet_place.Statement.{statement}
 use Rattle.host.proofs.sheets.frame_write_sheet_place.Tie as tie
@@ -10,8 +9,12 @@ judge-write-requires c κs = search needs
 place-of-requires : tie.Need-place-of-requires
 place-of-requires c κs = search needs
 
+same-length : tie.Need-same-length
+same-length c = search needs
+
 returns : tie.Need-returns
-returns c = c .place-of .ensures ∙ ap placeOf (c .before .judge-write .ensures)
+returns c = tells-place (c .before .before .before .judge-write .ensures) (c .place-of .ensures)
 
 pub frame-write-sheet-place-spec : {M : Type 1} → statement M
-frame-write-sheet-place-spec = tie.close (tie.spec judge-write-requires place-of-requires returns)
+frame-write-sheet-place-spec =
+    tie.close (tie.spec judge-write-requires place-of-requires same-length returns)

@@ -18,24 +18,13 @@ enum-known-s-2 : tie.Need-enum-known-s-2
 enum-known-s-2 c = search needs
 
 mul-result : tie.Need-mul-result
-mul-result c =
-    let h = subst SmallRead (c .before .s2 .given .1) (c .before .before .before .pre) in omega arith
+mul-result c = let h = subst SmallRead (c .before .s2 .given .1) (c .before .before .before .pre) in omega arith
 
 mul-result-2 : tie.Need-mul-result-2
-mul-result-2 c =
-    let h = subst SmallRead (c .before .s2 .given .1) (c .before .before .before .pre) in omega arith
+mul-result-2 c = let h = subst SmallRead (c .before .s2 .given .1) (c .before .before .before .pre) in omega arith
 
 add-result : tie.Need-add-result
-add-result c =
-    let h = subst SmallRead (c .before .s2 .given .1) (c .before .before .before .pre) in omega arith
-
-mul-result-3 : tie.Need-mul-result-3
-mul-result-3 c =
-    let h = subst SmallRead (c .before .s2 .given .1) (c .before .before .before .pre) in omega arith
-
-add-result-2 : tie.Need-add-result-2
-add-result-2 c =
-    let h = subst SmallRead (c .before .s2 .given .1) (c .before .before .before .pre) in omega arith
+add-result c = let h = subst SmallRead (c .before .s2 .given .1) (c .before .before .before .pre) in omega arith
 
 returns : tie.Need-returns
 returns c = search needs
@@ -54,7 +43,5 @@ pack-read-spec =
     mul-result
     mul-result-2
     add-result
-    mul-result-3
-    add-result-2
     returns
     returns-2)

@@ -1,0 +1,224 @@
+//! The calls of a decoder with a fault, made of the paper's.
+
+use super::{Fault, Faulty, last_bad_value};
+use crate::generate::Lists;
+use crate::harness::check::level_bytes;
+use crate::interface::{
+    Answer, DecodeInput, Decoded, Decoder, GraphBytes, Lent, LentLengths, SheetCounts, f32_list,
+    i32_bytes, number_bytes, numbers,
+};
+use crate::paper::{self, Limits, Outcome, Refusal, Sheet};
+
+impl Faulty {
+    pub fn lists(&self, graph: &GraphBytes) -> Lists {
+        let cut = |list: Vec<u32>, of_16_bits: bool| match of_16_bits {
+            true => list.into_iter().map(|number| number & 0xffff).collect(),
+            false => list,
+        };
+        Lists {
+            n: graph.n,
+            starts: cut(numbers(graph.starts), self.has(Fault::StartsOf16Bits)),
+            columns: cut(numbers(graph.columns), self.has(Fault::ColumnsOf16Bits)),
+        }
+    }
+
+    /// A call of the paper on the list of degrees, and what is then wrong with its answer or
+    /// the list. The number of variables is left out where only the call knows it.
+    fn on_degrees<T>(
+        &self,
+        bytes: &mut [u8],
+        n: Option<usize>,
+        call: impl Fn(&mut [u32]) -> Result<T, Refusal>,
+    ) -> Result<T, Refusal> {
+        let mut degrees = numbers(bytes);
+        let mut answer = call(&mut degrees);
+        let number = answer.as_ref().err().map_or(0, |refusal| refusal.number);
+        let too_short = n.is_some_and(|n| degrees.len() < n);
+        match (self.0, number) {
+            (Fault::DegreesAfterFive, 6) => {
+                let of_long_enough = call(&mut vec![0; Limits::LENT.variables]);
+                if of_long_enough.as_ref().is_err_and(|refusal| refusal.number == 5) {
+                    answer = of_long_enough;
+                }
+            }
+            (Fault::DegreesBeforeFour, 4) if too_short => {
+                answer = Err(Refusal { number: 6, place: 0 });
+            }
+            (Fault::DegreesChangedByFour, 4) => degrees.fill(0),
+            (Fault::DegreesChangedBySix, 6) if too_short => degrees.fill(0),
+            (Fault::DegreesLeftAfterFive, 5) => degrees = numbers(bytes),
+            (Fault::DegreesLeftByLaterRefusals, 6 | 8..=13) => degrees = numbers(bytes),
+            (Fault::DegreesCountedPastN, 0 | 5 | 6) => {
+                if let Some(past) = n.and_then(|n| degrees.get_mut(n)) {
+                    *past = 0;
+                }
+            }
+            _ => {}
+        }
+        put(bytes, &number_bytes(&degrees));
+        answer
+    }
+
+    /// The list as a companion changes it.
+    fn companion_list<'a>(&self, list: &'a mut [u8], spare: &'a mut Vec<u8>) -> &'a mut [u8] {
+        match self.has(Fault::DegreesLeftByCompanion) {
+            true => {
+                spare.extend_from_slice(list);
+                spare
+            }
+            false => list,
+        }
+    }
+
+    fn read(
+        &self,
+        text: &[u8],
+        degrees: &mut [u8],
+        starts: usize,
+        columns: usize,
+    ) -> Result<Sheet, Refusal> {
+        let limits = match self.has(Fault::OldLimitInReader) {
+            true => Limits { entries: 32_768, ..Limits::LENT },
+            false => Limits::LENT,
+        };
+        let text = self.careless(text);
+        self.on_degrees(degrees, None, |degrees| {
+            paper::read_sheet(limits, &text, degrees, starts, columns)
+        })
+    }
+
+    fn write(
+        &self,
+        graph: &GraphBytes,
+        degrees: &mut [u8],
+        text: usize,
+    ) -> Result<Vec<u8>, Refusal> {
+        let lists = self.lists(graph);
+        self.on_degrees(degrees, Some(graph.n), |degrees| {
+            paper::write_sheet(Limits::LENT, &lists.graph(), degrees, text)
+        })
+    }
+}
+
+fn put(lent: &mut [u8], bytes: &[u8]) {
+    lent[..bytes.len()].copy_from_slice(bytes);
+}
+
+fn place<T>(answer: Result<T, Refusal>) -> usize {
+    answer.err().map_or(0, |refusal| refusal.place)
+}
+
+impl Decoder for Faulty {
+    fn decode(&self, input: &DecodeInput, degrees: &mut [u8], lent: &mut Lent) -> Answer<Decoded> {
+        let buffers: [&mut [u8]; 5] = [
+            &mut *lent.levels,
+            &mut *lent.variable_messages,
+            &mut *lent.check_messages,
+            &mut *lent.sums,
+            &mut *lent.bits,
+        ];
+        let lengths = LentLengths::from_array(buffers.each_ref().map(|buffer| buffer.len()));
+        let n = Some(input.graph.n);
+        let call = |degrees: &mut [u32]| self.outcome(input, degrees, &lengths);
+        let outcome = match self.on_degrees(degrees, n, call) {
+            Ok(outcome) => outcome,
+            Err(refusal) => {
+                if self.has(Fault::WrittenWhenRefused) && refusal.number == 12 {
+                    lent.levels.fill(0);
+                }
+                return Answer::Refused(refusal.number);
+            }
+        };
+        let lists = [
+            level_bytes(&outcome.levels),
+            level_bytes(&outcome.variable_messages),
+            level_bytes(&outcome.check_messages),
+            i32_bytes(&outcome.sums),
+            outcome.bits,
+        ];
+        for (buffer, list) in buffers.into_iter().zip(lists) {
+            put(buffer, &list);
+            if let (true, Some(past)) =
+                (self.has(Fault::BytePastTheLength), buffer.get_mut(list.len()))
+            {
+                *past = 0;
+            }
+        }
+        let Outcome { verdict, iterations, unsatisfied, .. } = outcome;
+        Answer::Accepted(Decoded { verdict, iterations, unsatisfied })
+    }
+
+    fn decode_place(
+        &self,
+        graph: &GraphBytes,
+        values: &[u8],
+        number: u8,
+        degrees: &mut [u8],
+    ) -> usize {
+        let lists = self.lists(graph);
+        let values = f32_list(values);
+        let spare = &mut Vec::new();
+        let degrees = self.companion_list(degrees, spare);
+        let checked = self.on_degrees(degrees, Some(graph.n), |degrees| {
+            paper::check_graph(Limits::LENT, &lists.graph(), degrees)
+        });
+        match checked {
+            Err(refusal) => refusal.place,
+            Ok(()) if number == 13 => values.len(),
+            Ok(()) if number == 12 && self.has(Fault::LastBadValue) => last_bad_value(&values),
+            Ok(()) if number == 12 => values.iter().position(|v| !v.is_finite()).unwrap_or(0),
+            Ok(()) => 0,
+        }
+    }
+
+    fn read_sheet(
+        &self,
+        text: &[u8],
+        degrees: &mut [u8],
+        starts: &mut [u8],
+        columns: &mut [u8],
+    ) -> Answer<SheetCounts> {
+        match self.read(text, degrees, starts.len(), columns.len()) {
+            Ok(sheet) => {
+                put(starts, &number_bytes(&sheet.starts));
+                put(columns, &number_bytes(&sheet.columns));
+                Answer::Accepted(SheetCounts { n: sheet.n, m: sheet.starts.len() - 1 })
+            }
+            Err(refusal) => Answer::Refused(refusal.number),
+        }
+    }
+
+    fn read_sheet_place(
+        &self,
+        text: &[u8],
+        degrees: &mut [u8],
+        starts: usize,
+        columns: usize,
+    ) -> usize {
+        let spare = &mut Vec::new();
+        let degrees = self.companion_list(degrees, spare);
+        place(self.read(text, degrees, starts, columns))
+    }
+
+    fn write_sheet(
+        &self,
+        graph: &GraphBytes,
+        degrees: &mut [u8],
+        text: &mut [u8],
+    ) -> Answer<usize> {
+        match self.write(graph, degrees, text.len()) {
+            Ok(written) => {
+                put(text, &written);
+                let more = usize::from(self.has(Fault::TextLengthOneMore) && graph.n == 7);
+                Answer::Accepted(written.len() + more)
+            }
+            Err(refusal) => Answer::Refused(refusal.number),
+        }
+    }
+
+    fn write_sheet_place(&self, graph: &GraphBytes, degrees: &mut [u8], text: usize) -> usize {
+        let spare = &mut Vec::new();
+        let degrees = self.companion_list(degrees, spare);
+        place(self.write(graph, degrees, text))
+    }
+}
