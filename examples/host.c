@@ -1,5 +1,5 @@
-/* Reads document 01's example sheet, decodes the example and three inputs near it on the lists that it gave, and writes the sheet back, as
-   a scanner's host would. Then a sheet that is refused, with its line. */
+/* Reads document 01's example sheet, decodes the example and three inputs near it on the lists that it gave, then a frame that stalls and
+   the same frame with lifting, and writes the sheet back, as a scanner's host would. Then a sheet that is refused, with its line. */
 #include <stdio.h>
 #include <string.h>
 
@@ -22,6 +22,10 @@ static const uint8_t example[] = {0, 0, 0x20, 0x40, 0, 0, 0, 0xbf, 0, 0, 0xc0, 0
 static const uint8_t negated[] = {0, 0, 0x20, 0xc0, 0, 0, 0, 0x3f, 0, 0, 0xc0, 0xbf};
 /* 2.5, NaN, 1.5 */
 static const uint8_t damaged[] = {0, 0, 0x20, 0x40, 0, 0, 0xc0, 0x7f, 0, 0, 0xc0, 0x3f};
+
+/* 3.5, -3.5, -3.5: levels +3, -3, -3. Variable 0 hears -3 in every iteration, which just balances its own level, so it keeps its sign and
+   check 0 stays odd. Lifted to 4 the message outweighs the level. */
+static const uint8_t stalled[] = {0, 0, 0x60, 0x40, 0, 0, 0x60, 0xc0, 0, 0, 0x60, 0xc0};
 
 static void refused(uint64_t answer, size_t place)
 {
@@ -61,13 +65,15 @@ static void write_sheet(void)
     printf("sheet written\n%lu bytes, %s\n", (unsigned long)length, same ? "the same" : "another");
 }
 
-static void decode(const uint8_t *values, uint32_t limit)
+/* From iteration lift_from on a check message of magnitude 3, the largest that 3 bits have, counts as magnitude lift_to. */
+static void decode_lifted(const uint8_t *values, uint32_t limit, uint32_t lift_from, uint32_t lift_to)
 {
     uint8_t levels[VARIABLES], variable_messages[ENTRIES], check_messages[ENTRIES], sums[4 * VARIABLES], bits[VARIABLES];
 
     uint64_t answer = frame_decode(variables, starts, starts_length, columns, columns_length, values, 4 * VARIABLES, FRAME_PLAIN, 1.0f,
-                                   0.0f, 3, 3, 1, 1, 0, limit, degrees, sizeof degrees, levels, sizeof levels, variable_messages,
-                                   sizeof variable_messages, check_messages, sizeof check_messages, sums, sizeof sums, bits, sizeof bits);
+                                   0.0f, 3, 3, 1, 1, 0, limit, lift_from, lift_to, degrees, sizeof degrees, levels, sizeof levels,
+                                   variable_messages, sizeof variable_messages, check_messages, sizeof check_messages, sums, sizeof sums,
+                                   bits, sizeof bits);
     if (frame_refusal(answer) != 0) {
         refused(answer, frame_decode_place(variables, starts, starts_length, columns, columns_length, values, 4 * VARIABLES,
                                            frame_refusal(answer), degrees, sizeof degrees));
@@ -81,6 +87,12 @@ static void decode(const uint8_t *values, uint32_t limit)
     putchar('\n');
 }
 
+/* Nothing is lifted; 15 is admitted with every message precision. */
+static void decode(const uint8_t *values, uint32_t limit)
+{
+    decode_lifted(values, limit, FRAME_NEVER, 15);
+}
+
 int main(void)
 {
     read_sheet(sheet);
@@ -88,6 +100,8 @@ int main(void)
     decode(negated, 5);
     decode(example, 0);
     decode(damaged, 5);
+    decode(stalled, 5);
+    decode_lifted(stalled, 5, 3, 4);
     write_sheet();
     read_sheet(turned);
     return 0;

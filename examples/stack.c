@@ -41,8 +41,15 @@ static void *nothing(void *none) { return none; }
 
 static void *decode(void *none) {
   answer = frame_decode(VARIABLES, starts, sizeof starts, columns, sizeof columns, values, sizeof values, FRAME_PLAIN, 2, 0, 4, 4, 1, 1, 0,
-                        3, degrees, sizeof degrees, levels, sizeof levels, variable_messages, sizeof variable_messages, check_messages,
-                        sizeof check_messages, sums, sizeof sums, bits, sizeof bits);
+                        3, FRAME_NEVER, 15, degrees, sizeof degrees, levels, sizeof levels, variable_messages, sizeof variable_messages,
+                        check_messages, sizeof check_messages, sums, sizeof sums, bits, sizeof bits);
+  return none;
+}
+
+static void *decode_lifted(void *none) {
+  answer = frame_decode(VARIABLES, starts, sizeof starts, columns, sizeof columns, values, sizeof values, FRAME_PLAIN, 2, 0, 4, 4, 1, 1, 0,
+                        3, 2, 9, degrees, sizeof degrees, levels, sizeof levels, variable_messages, sizeof variable_messages,
+                        check_messages, sizeof check_messages, sums, sizeof sums, bits, sizeof bits);
   return none;
 }
 
@@ -108,6 +115,7 @@ int main(void) {
   make_frame();
   own = taken(nothing);
   measure("frame_decode", decode, FRAME_DECODE_STACK);
+  measure("frame_decode, lifted", decode_lifted, FRAME_DECODE_STACK);
   measure("frame_decode_place", decode_place, FRAME_DECODE_STACK);
   measure("frame_write_sheet", write_sheet, FRAME_WRITE_SHEET_STACK);
   text_length = frame_text_length(answer);

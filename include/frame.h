@@ -22,15 +22,22 @@ extern "C" {
 #endif
 
 /* How many bytes of stack a call or its companion takes at most, beside its caller's. Measured on x86-64 on a graph of the most variables, checks
-   and entries: decode 2,072, reading a sheet 520, writing one 544. No list of a call grows with the graph: the compiled calls have frames of
+   and entries: decode 2,136, reading a sheet 520, writing one 544. No list of a call grows with the graph: the compiled calls have frames of
    fixed size, and recurse only for the seven digits of a count of 1,000,000. */
 enum { FRAME_DECODE_STACK = 4096, FRAME_READ_SHEET_STACK = 2048, FRAME_WRITE_SHEET_STACK = 2048 };
 
 /* The kind of scaling: a gain alone (the variance is not looked at), or a gain with a noise variance. */
 enum { FRAME_PLAIN = 0, FRAME_NOISE = 1 };
 
+/* lift_from of a run in which nothing is lifted. */
+enum { FRAME_NEVER = 256 };
+
 /* Decodes the frame `values`, f32 for each variable, on a graph. `channel` and `message` are the precisions in bits, the offsets are 0
    or 1, `limit` is 0 to 255.
+
+   From iteration `lift_from` on, 1 to 256, a check message of the largest magnitude, Nq (1, 3 or 7 for 2, 3 or 4 bits of `message`), counts
+   as magnitude `lift_to`, Nq + 1 to 15, in its variable's sums; where lift_from is FRAME_NEVER no message does, and any such lift_to gives the
+   same run. The lists of messages hold what was sent.
 
    Lent: degrees, 4n bytes, as above; levels, n bytes; both message lists, E bytes each, in the columns' order; sums, 4n bytes (i32 in
    halves); bits, n bytes. A level or message is its magnitude, plus 128 when its sign is minus. Afterwards they hold those of the
@@ -39,10 +46,10 @@ enum { FRAME_PLAIN = 0, FRAME_NOISE = 1 };
    The answer is taken apart by the functions below. */
 uint64_t frame_decode(size_t n, const uint8_t *starts, size_t starts_length, const uint8_t *columns, size_t columns_length,
                       const uint8_t *values, size_t values_length, uint32_t kind, float gain, float variance, uint32_t channel,
-                      uint32_t message, uint32_t phi_s, uint32_t phi_a, uint32_t phi_0, uint32_t limit, uint8_t *degrees,
-                      size_t degrees_length, uint8_t *levels, size_t levels_length, uint8_t *variable_messages,
-                      size_t variable_messages_length, uint8_t *check_messages, size_t check_messages_length, uint8_t *sums,
-                      size_t sums_length, uint8_t *bits, size_t bits_length);
+                      uint32_t message, uint32_t phi_s, uint32_t phi_a, uint32_t phi_0, uint32_t limit, uint32_t lift_from,
+                      uint32_t lift_to, uint8_t *degrees, size_t degrees_length, uint8_t *levels, size_t levels_length,
+                      uint8_t *variable_messages, size_t variable_messages_length, uint8_t *check_messages,
+                      size_t check_messages_length, uint8_t *sums, size_t sums_length, uint8_t *bits, size_t bits_length);
 
 /* The place of the refusal that frame_decode gave for the same graph, values and length of `degrees`; `refusal` is its number,
    frame_refusal(answer). 0 where that is 0. No place depends on the other numbers or on the other lent memory. The list of degrees is left
@@ -83,8 +90,8 @@ size_t frame_write_sheet_place(size_t n, const uint8_t *starts, size_t starts_le
    the list of degrees before 5 is looked for and every other last.
    Of read: 1 a line of another form, or a missing line or LF.
    Of decode and write: 7 starts not beginning at 0, one below the start before it, or not ending at E.
-   Of decode: 8 precisions not admitted; 9 an offset above 1 or limit above 255; 10 gain or variance not finite and above zero, or another
-   kind; 11 factor infinite or zero; 12 a value infinite or NaN; 13 other than n values. */
+   Of decode: 8 precisions not admitted; 9 an offset above 1 or limit above 255; 16 lift_from or lift_to outside its bounds; 10 gain or variance
+   not finite and above zero, or another kind; 11 factor infinite or zero; 12 a value infinite or NaN; 13 other than n values. */
 static inline unsigned frame_refusal(uint64_t answer) { return (unsigned)(answer & 255); }
 
 /* Of decode, where nothing is refused: whether the bits are a codeword, the number of the iteration where the run stopped, and how many

@@ -1,4 +1,5 @@
-//! Tables of each decoder's times: decode on large and on small graphs, and sheets.
+//! Tables of each decoder's times: decode on large and on small graphs, with lifting off and
+//! on, and sheets.
 
 mod frames;
 mod times;
@@ -16,6 +17,11 @@ const STRIP_SIZE: usize = 1_000_000;
 
 const ROUNDS: usize = 101;
 const STRIP_ROUNDS: usize = 11;
+
+/// L of the rows with lifting on: once a run has begun on large graphs, at once on small ones,
+/// where runs are short.
+const LIFT_FROM: u32 = 3;
+const SMALL_LIFT_FROM: u32 = 1;
 
 pub fn run(decoders: &[Named]) {
     let largest = large_graphs(decoders);
@@ -35,14 +41,11 @@ fn large_graphs(decoders: &[Named]) -> Option<Lists> {
     println!("nanoseconds per graph entry and iteration, median and least of {ROUNDS} rounds:");
     heading(&["n", "entries", "frames", "iterations"], decoders, &[]);
     let random = &mut Random::new(SEED);
-    let mut largest = None;
-    for n in SIZES {
-        for batch in frames::noisy(random, n) {
-            decode_row(decoders, &batch, ROUNDS);
-            largest = Some(batch.lists);
-        }
-    }
-    largest
+    let batches: Vec<Batch> = SIZES.iter().flat_map(|&n| frames::noisy(random, n)).collect();
+    batches.iter().for_each(|batch| decode_row(decoders, batch, ROUNDS));
+    println!("the same frames, saturated messages lifted by 2 from iteration {LIFT_FROM} on:");
+    batches.iter().for_each(|batch| decode_row(decoders, &batch.lifted(LIFT_FROM), ROUNDS));
+    batches.into_iter().next_back().map(|batch| batch.lists)
 }
 
 /// Gives the strip's graph.
@@ -72,11 +75,19 @@ fn small_graphs(decoders: &[Named]) {
     println!("nanoseconds per graph entry and iteration, and for a call:");
     heading(&["n", "entries", "frames", "iterations"], decoders, &["a call"]);
     let chosen = SMALL_SIZES.map(|n| frames::chosen(&mut Random::for_input(SEED, n as u64), n));
-    for batch in [frames::example()].iter().chain(chosen.iter().flatten()) {
-        let DecodeTimes { iterations, times } = times::decode_repeatedly(decoders, batch, ROUNDS);
-        let steps = iterations * batch.lists.columns.len() as f64;
-        row(&described(batch, iterations), &times, 2, Some(steps));
-    }
+    let batches: Vec<Batch> =
+        [frames::example()].into_iter().chain(chosen.into_iter().flatten()).collect();
+    batches.iter().for_each(|batch| small_row(decoders, batch));
+    println!(
+        "the same frames, saturated messages lifted by 2 from iteration {SMALL_LIFT_FROM} on:"
+    );
+    batches.iter().for_each(|batch| small_row(decoders, &batch.lifted(SMALL_LIFT_FROM)));
+}
+
+fn small_row(decoders: &[Named], batch: &Batch) {
+    let DecodeTimes { iterations, times } = times::decode_repeatedly(decoders, batch, ROUNDS);
+    let steps = iterations * batch.lists.columns.len() as f64;
+    row(&described(batch, iterations), &times, 2, Some(steps));
 }
 
 fn sheets(decoders: &[Named], lists: &Lists, rounds: usize) {

@@ -3,12 +3,14 @@
 
 mod calls;
 mod found;
+mod lifting;
 
 use crate::interface::{DecodeInput, LentLengths, Verdict, as_number, f32_list};
 use crate::paper::graph::odd_checks;
 use crate::paper::rules::{self, Offsets};
 use crate::paper::run::{Checked, check_settings};
 use crate::paper::{self, Graph, Level, Limits, Outcome, Refusal};
+use lifting::Sum;
 
 #[derive(Clone, Copy, Debug, PartialEq, Eq)]
 enum Fault {
@@ -52,6 +54,24 @@ enum Fault {
     StartsOf16Bits,
     ColumnsOf16Bits,
     OldLimitInReader,
+    // Lifting.
+    LiftedFromTheNextOn,
+    LiftedInPosteriorOnly,
+    LiftedInOutgoingOnly,
+    EveryMagnitudeLifted,
+    LiftedAsStored,
+    FirstMessagesLifted,
+    LevelsLifted,
+    PlusAloneLifted,
+    NeverWrappedToZero,
+    WOfNqAdmitted,
+    W16Admitted,
+    WUnreadWhereNever,
+    L0Admitted,
+    L257Admitted,
+    SixteenBeforeNine,
+    SixteenAfterTen,
+    SixteenWithPlace,
 }
 
 struct Faulty(Fault);
@@ -81,6 +101,7 @@ impl Faulty {
         if self.has(Fault::VarianceRead) && settings.kind == 0 && settings.variance.is_nan() {
             settings.gain = settings.variance;
         }
+        self.admit_lifting(&mut settings);
         let decoded = paper::decode(Limits::LENT, &graph, &values, &settings, degrees, lent);
         let refusal = match decoded {
             Ok(_) => return Ok(self.run(&graph, &values, &check_settings(&settings)?, input)),
@@ -94,6 +115,7 @@ impl Faulty {
             12 if self.has(Fault::LastBadValue) => {
                 Err(Refusal { number: 12, place: last_bad_value(&values) })
             }
+            9 | 16 => Err(Refusal { number: self.near_16(&settings, refusal.number), place: 0 }),
             _ => Err(refusal),
         }
     }
@@ -134,6 +156,7 @@ impl Faulty {
         message
     }
 
+    /// Of messages as they count.
     fn posterior_sum(&self, channel: Level, incoming: &[Level]) -> i32 {
         let sum = rules::posterior_sum(channel, incoming);
         match self.has(Fault::DegreeOneAsEven) && incoming.len() == 1 {
@@ -151,7 +174,7 @@ impl Faulty {
     ) -> Outcome {
         let levels: Vec<Level> =
             values.iter().map(|&value| self.quantise(settings, input, value)).collect();
-        let sent = |&variable: &u32| rules::first_message(levels[variable as usize], settings.nq);
+        let sent = |&variable: &u32| self.first_message(levels[variable as usize], settings);
         let mut outcome = Outcome {
             verdict: Verdict::Stopped,
             iterations: 0,
@@ -179,7 +202,7 @@ impl Faulty {
             }
             outcome.iterations += 1;
             if outcome.iterations < 2 || !self.has(Fault::IterationRepeated) {
-                self.iterate(graph, &entries, &mut outcome);
+                self.iterate(graph, &entries, settings, &mut outcome);
             }
         }
         if outcome.unsatisfied == 0 {
@@ -196,25 +219,27 @@ impl Faulty {
 
     fn send_from_variables(&self, entries: &[Vec<usize>], settings: &Checked, to: &mut Outcome) {
         for (variable, entries) in entries.iter().enumerate() {
-            let incoming: Vec<Level> = entries.iter().map(|&e| to.check_messages[e]).collect();
+            let incoming = self.counted(entries, Sum::Outgoing, settings, to);
+            let channel = self.counted_level(to.levels[variable], settings, to.iterations);
             for (recipient, &entry) in entries.iter().enumerate() {
-                let u = rules::outgoing_sum(to.levels[variable], &incoming, recipient);
+                let u = rules::outgoing_sum(channel, &incoming, recipient);
                 to.variable_messages[entry] =
                     self.variable_message(u, settings.nq, settings.offsets);
             }
         }
     }
 
-    fn iterate(&self, graph: &Graph, entries: &[Vec<usize>], to: &mut Outcome) {
+    fn iterate(&self, graph: &Graph, entries: &[Vec<usize>], settings: &Checked, to: &mut Outcome) {
         for row in graph.rows() {
             for (recipient, entry) in row.clone().enumerate() {
                 let incoming = &to.variable_messages[row.clone()];
                 to.check_messages[entry] = self.check_message(incoming, recipient);
             }
         }
+        self.store_as_counted(settings, to);
         for (variable, entries) in entries.iter().enumerate() {
-            let incoming: Vec<Level> = entries.iter().map(|&e| to.check_messages[e]).collect();
-            let channel = to.levels[variable];
+            let incoming = self.counted(entries, Sum::Posterior, settings, to);
+            let channel = self.counted_level(to.levels[variable], settings, to.iterations);
             to.sums[variable] = self.posterior_sum(channel, &incoming);
             to.bits[variable] = match self.has(Fault::TieToBit0) {
                 true => u8::from(to.sums[variable] < 0),

@@ -6,6 +6,12 @@
 /// The bytes of a start, a column or a degree.
 pub const NUMBER_BYTES: usize = 4;
 
+/// L of a run in which nothing is lifted: "256 means never".
+pub const NEVER: u32 = 256;
+
+/// The largest W that is admitted.
+pub const LARGEST_LIFT: u32 = 15;
+
 /// A refusal's number and place.
 #[derive(Clone, Copy, Debug, PartialEq, Eq)]
 pub struct Refusal {
@@ -42,7 +48,8 @@ pub enum Answer<T> {
     Malformed(u64),
 }
 
-/// A decode's settings, as the host gives them: nothing is checked yet.
+/// A decode's settings, as the host gives them: nothing is checked yet. The last two are the
+/// paper's L and W.
 #[derive(Clone, Copy, Debug)]
 pub struct Settings {
     pub kind: u32,
@@ -54,6 +61,8 @@ pub struct Settings {
     pub phi_a: u32,
     pub phi_0: u32,
     pub limit: u32,
+    pub lift_from: u32,
+    pub lift_to: u32,
 }
 
 #[derive(Clone, Copy)]

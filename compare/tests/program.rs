@@ -53,6 +53,13 @@ fn trial_values() {
     assert_eq!(with_settings("3f800000 3 3 1 1 0 256"), refused_as(9, 0));
 }
 
+/// "Run text means L 256": with lifting from iteration 1, 2, .. or 5 on it is a codeword.
+#[test]
+fn nothing_is_lifted() {
+    let stalls = ["40600000", "c0600000", "c0600000"];
+    assert_eq!(with_values(&stalls), decoded("stopped 5 1", "011"));
+}
+
 #[test]
 fn variance_form() {
     // (2 × 1) / 2 = 1: the example's factor.

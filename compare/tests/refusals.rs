@@ -206,6 +206,71 @@ fn offsets_and_limits() {
     assert_eq!(decode_with(|s| (s.limit, s.phi_0) = (255, 1)), Ok(1));
 }
 
+/// Sets L and W.
+fn lift(from: u32, to: u32) -> impl Fn(&mut Settings) {
+    move |settings| (settings.lift_from, settings.lift_to) = (from, to)
+}
+
+#[test]
+fn liftings_at_their_bounds() {
+    // Nq is that of the message precision: W is Nq + 1 to 15.
+    for (channel, message, nq) in [(3, 2, 1), (3, 3, 3), (4, 3, 3), (4, 4, 7)] {
+        let answer = |from, to| {
+            decode_with(|s| {
+                (s.channel, s.message) = (channel, message);
+                lift(from, to)(s);
+            })
+        };
+        for from in [1, 2, 255, 256] {
+            assert!((nq + 1..=15).all(|to| answer(from, to).is_ok()));
+            for to in [0, nq - 1, nq, 16, 17, 255, 256, nq + 257, 65_545, u32::MAX] {
+                assert_eq!(answer(from, to), refused(16, 0), "{from} {to}");
+            }
+        }
+        for from in [0, 257, 258, 511, 512, 65_536, 65_537, 1 << 31, u32::MAX] {
+            for to in [0, nq, nq + 1, 15, 16] {
+                assert_eq!(answer(from, to), refused(16, 0), "{from} {to}");
+            }
+        }
+    }
+}
+
+#[test]
+fn liftings_in_the_order() {
+    for (from, to) in [(0, 15), (257, 15), (u32::MAX, 15), (1, 3), (256, 3), (256, 16), (0, 0)] {
+        let lifted = |change: &dyn Fn(&mut Settings)| {
+            decode_with(|s| {
+                lift(from, to)(s);
+                change(s);
+            })
+        };
+        assert_eq!(lifted(&|_| ()), refused(16, 0));
+        // 8 and 9 come before.
+        assert_eq!(lifted(&|s| s.channel = 5), refused(8, 0));
+        assert_eq!(lifted(&|s| s.message = 4), refused(8, 0));
+        assert_eq!(lifted(&|s| s.phi_s = 2), refused(9, 0));
+        assert_eq!(lifted(&|s| s.phi_a = 2), refused(9, 0));
+        assert_eq!(lifted(&|s| s.phi_0 = 2), refused(9, 0));
+        assert_eq!(lifted(&|s| s.limit = 256), refused(9, 0));
+        // 10 and 11 after: gain, variance, kind, and twice the largest f32.
+        assert_eq!(lifted(&|s| s.gain = 0.0), refused(16, 0));
+        assert_eq!(lifted(&|s| (s.kind, s.variance) = (1, f32::NAN)), refused(16, 0));
+        assert_eq!(lifted(&|s| s.kind = 2), refused(16, 0));
+        let doubled = |s: &mut Settings| (s.kind, s.gain, s.variance) = (1, f32::MAX, 1.0);
+        assert_eq!(lifted(&doubled), refused(16, 0));
+        // So do 12 and 6; 13 and the graph's come before.
+        let mut settings = example_settings();
+        lift(from, to)(&mut settings);
+        let nothing = LentLengths::needed(0, 0);
+        let answer = |graph: &Graph, values: &[f32]| {
+            decode(Limits::LENT, graph, values, &settings, &mut [0; 4], &nothing)
+        };
+        assert_eq!(answer(&example_graph(), &[f32::NAN; 3]), refused(16, 0));
+        assert_eq!(answer(&example_graph(), &[f32::NAN; 2]), refused(13, 2));
+        assert_eq!(answer(&Graph { n: 4, ..example_graph() }, &[1.0; 4]), refused(5, 2 + 3));
+    }
+}
+
 const NOT_ABOVE_ZERO: [f32; 7] =
     [0.0, -0.0, -1.0, f32::INFINITY, f32::NEG_INFINITY, f32::NAN, -f32::NAN];
 

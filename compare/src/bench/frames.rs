@@ -2,7 +2,8 @@
 
 use crate::generate::codewords::Codewords;
 use crate::generate::graphs::{Lists, regular, regular_with_codeword};
-use crate::interface::{LentLengths, Settings, Verdict, f32_bytes, f32_list};
+use crate::interface::{LARGEST_LIFT, LentLengths, NEVER, Settings, Verdict, f32_bytes, f32_list};
+use crate::paper::quantiser::largest_magnitude;
 use crate::paper::{self, Limits};
 use crate::random::Random;
 
@@ -26,17 +27,33 @@ const SETTINGS: Settings = Settings {
     phi_a: 1,
     phi_0: 0,
     limit: 50,
+    lift_from: NEVER,
+    lift_to: LARGEST_LIFT,
 };
 
 /// How frames end, and the standard deviation of the noise that mostly makes them end so.
 const ENDINGS: [(Verdict, f32); 2] = [(Verdict::Codeword, 0.62), (Verdict::Stopped, 1.0)];
 
-/// Frames on one graph. The ending is what most or all of them have.
+/// Frames on one graph. The ending is what most or all of them have with nothing lifted.
 pub struct Batch {
     pub lists: Lists,
     pub settings: Settings,
     pub ending: Verdict,
     pub frames: Vec<Vec<u8>>,
+}
+
+impl Batch {
+    /// The same frames with saturated messages lifted from an iteration on, by 2.
+    pub fn lifted(&self, lift_from: u32) -> Batch {
+        let nq = largest_magnitude(self.settings.message);
+        let settings = Settings { lift_from, lift_to: u32::from(nq) + 2, ..self.settings };
+        Batch {
+            lists: self.lists.clone(),
+            settings,
+            ending: self.ending,
+            frames: self.frames.clone(),
+        }
+    }
 }
 
 /// Frames as they come, on a (3,6)-regular graph.

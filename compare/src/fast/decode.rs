@@ -2,8 +2,10 @@
 //! rows, outgoing messages from a constant table.
 
 use super::graph::{self, Word, number};
-use super::tables::{HALVES, MINUS, Outgoing};
-use crate::interface::{DecodeInput, Decoded, Lent, LentLengths, Refusal, Settings, Verdict};
+use super::tables::{HALVES, Halves, MINUS, Outgoing, lifted};
+use crate::interface::{
+    DecodeInput, Decoded, LARGEST_LIFT, Lent, LentLengths, NEVER, Refusal, Settings, Verdict,
+};
 
 /// A frame that nothing is wrong with.
 pub struct Frame<'a> {
@@ -16,6 +18,8 @@ pub struct Frame<'a> {
     nq: u8,
     outgoing: &'static Outgoing,
     limit: usize,
+    lift_from: usize,
+    lifted: &'static Halves,
 }
 
 pub fn first_bad_value(values: &[[u8; 4]]) -> Option<usize> {
@@ -36,7 +40,7 @@ pub fn prepare<'a>(
         return refuse(13, values.len());
     }
     let settings = &input.settings;
-    let largest = match (settings.channel, settings.message) {
+    let (nch, nq) = match (settings.channel, settings.message) {
         (3, 2) => (3, 1),
         (3, 3) => (3, 3),
         (4, 3) => (7, 3),
@@ -45,6 +49,11 @@ pub fn prepare<'a>(
     };
     if settings.phi_s.max(settings.phi_a).max(settings.phi_0) > 1 || settings.limit > 255 {
         return refuse(9, 0);
+    }
+    let lifts = (1..=NEVER).contains(&settings.lift_from)
+        && (u32::from(nq) + 1..=LARGEST_LIFT).contains(&settings.lift_to);
+    if !lifts {
+        return refuse(16, 0);
     }
     let Some(factor) = factor(settings) else {
         return refuse(10, 0);
@@ -61,7 +70,6 @@ pub fn prepare<'a>(
     if !long_enough {
         return refuse(6, 0);
     }
-    let (nch, nq) = largest;
     Ok(Frame {
         starts,
         columns,
@@ -72,6 +80,8 @@ pub fn prepare<'a>(
         nq,
         outgoing: Outgoing::of(settings),
         limit: settings.limit as usize,
+        lift_from: settings.lift_from as usize,
+        lifted: lifted(settings),
     })
 }
 
@@ -104,14 +114,19 @@ pub fn run(frame: &Frame, lent: &mut Lent) -> Decoded {
     let own = channel_halves(levels, frame.degrees);
     let mut sums = vec![0; n];
 
+    let mut halves = &HALVES;
     let mut iterations = 0;
     while iterations < frame.limit && odd_checks(frame, bits).any(|odd| odd) {
         if iterations > 0 {
-            send_from_variables(frame, &sums, check_messages, variable_messages);
+            send_from_variables(frame, halves, &sums, check_messages, variable_messages);
         }
         iterations += 1;
+        // No run comes to the iteration that means never.
+        if iterations == frame.lift_from {
+            halves = frame.lifted;
+        }
         sums.copy_from_slice(&own);
-        send_from_checks(frame, variable_messages, check_messages, &mut sums);
+        send_from_checks(frame, halves, variable_messages, check_messages, &mut sums);
         for ((bit, &sum), &level) in bits.iter_mut().zip(&sums).zip(levels.iter()) {
             *bit = u8::from(sum < 0) | (u8::from(sum == 0) & (level >> 7));
         }
@@ -163,7 +178,9 @@ fn odd_checks(frame: &Frame, bits: &[u8]) -> impl Iterator<Item = bool> {
     })
 }
 
-fn send_from_checks(frame: &Frame, from: &[u8], to: &mut [u8], sums: &mut [i32]) {
+/// By itself this pass has registers enough for the table of contributions.
+#[inline(never)]
+fn send_from_checks(frame: &Frame, halves: &Halves, from: &[u8], to: &mut [u8], sums: &mut [i32]) {
     for (start, end) in graph::rows(frame.starts) {
         let (mut least, mut second, mut signs) = (u8::MAX, u8::MAX, 0);
         for &message in &from[start..end] {
@@ -178,14 +195,16 @@ fn send_from_checks(frame: &Frame, from: &[u8], to: &mut [u8], sums: &mut [i32])
             let magnitude = if own & 0x7f == least { second } else { least };
             let message = magnitude | ((signs ^ own) & MINUS);
             *out = message;
-            sums[number(column)] += HALVES[usize::from(message)];
+            sums[number(column)] += halves[usize::from(message)];
         }
     }
 }
 
-fn send_from_variables(frame: &Frame, sums: &[i32], from: &[u8], to: &mut [u8]) {
+/// As above.
+#[inline(never)]
+fn send_from_variables(frame: &Frame, halves: &Halves, sums: &[i32], from: &[u8], to: &mut [u8]) {
     for ((&message, out), &column) in from.iter().zip(to).zip(frame.columns) {
-        let sum = sums[number(column)] - HALVES[usize::from(message)];
+        let sum = sums[number(column)] - halves[usize::from(message)];
         *out = frame.outgoing.message(sum);
     }
 }

@@ -4,31 +4,62 @@ use crate::interface::Settings;
 
 pub const MINUS: u8 = 0x80;
 
-/// A message's contribution in halves: its odd size with its sign.
-pub const HALVES: [i32; 256] = {
+/// The largest magnitudes of message precisions of 2, 3 and 4 bits.
+const NQ: [usize; 3] = [1, 3, 7];
+
+/// Messages' contributions in halves by their byte: an odd size with the sign.
+pub type Halves = [i32; 256];
+
+/// Those of messages as they are.
+pub static HALVES: Halves = halves(0, 0);
+
+/// Those of messages of which one magnitude counts as another.
+const fn halves(magnitude: usize, counts_as: usize) -> Halves {
     let mut halves = [0; 256];
     let mut byte = 0;
     while byte < 256 {
-        let size = 2 * (byte as i32 & 0x7f) + 1;
+        let own = byte & 0x7f;
+        let counted = if own == magnitude { counts_as } else { own };
+        let size = 2 * counted as i32 + 1;
         halves[byte] = if byte < 128 { size } else { -size };
         byte += 1;
     }
     halves
+}
+
+/// For message precisions of 2, 3 and 4 bits, the largest magnitude lifted to 0, 1, .., 15.
+static LIFTED: [[Halves; 16]; 3] = {
+    let mut tables = [[[0; 256]; 16]; 3];
+    let mut row = 0;
+    while row < 3 {
+        let mut to = 0;
+        while to < 16 {
+            tables[row][to] = halves(NQ[row], to);
+            to += 1;
+        }
+        row += 1;
+    }
+    tables
 };
 
-/// No sum is larger than 2 × 7 + 2 + 32 × 15 = 496.
-const MIDDLE: i32 = 512;
+/// The contributions once messages are lifted, of settings that are admitted.
+pub fn lifted(settings: &Settings) -> &'static Halves {
+    &LIFTED[(settings.message - 2) as usize][settings.lift_to as usize]
+}
+
+/// No sum is larger than 2 × 7 + 2 + 32 × 31 = 1,008, which all messages lifted to 15 give.
+const MIDDLE: i32 = 1024;
 
 /// Outgoing messages by their sum, which stands at `MIDDLE` + sum.
-pub struct Outgoing([u8; 1024]);
+pub struct Outgoing([u8; 2048]);
 
 /// For message precisions of 2, 3 and 4 bits, each setting of the offsets.
 static OUTGOING: [Outgoing; 24] = {
-    let mut tables = [const { Outgoing([0; 1024]) }; 24];
+    let mut tables = [const { Outgoing([0; 2048]) }; 24];
     let mut row = 0;
     while row < 24 {
         let mut index = 0;
-        while index < 1024 {
+        while index < 2048 {
             tables[row].0[index] = outgoing_message(row, index as i32 - MIDDLE);
             index += 1;
         }
@@ -38,7 +69,7 @@ static OUTGOING: [Outgoing; 24] = {
 };
 
 const fn outgoing_message(row: usize, sum: i32) -> u8 {
-    let nq = [1, 3, 7][row / 8];
+    let nq = NQ[row / 8];
     let (phi_s, phi_a, phi_0) = (row / 4 % 2, row / 2 % 2, row % 2);
     let f = sum.unsigned_abs() as usize / 2;
     let magnitude = match f {
@@ -59,6 +90,6 @@ impl Outgoing {
     }
 
     pub fn message(&self, sum: i32) -> u8 {
-        self.0[(MIDDLE + sum) as usize & 1023]
+        self.0[(MIDDLE + sum) as usize & 2047]
     }
 }

@@ -1,10 +1,12 @@
 //! Whole inputs of a call, made from the parts.
 
 use super::codewords::Codewords;
-use super::{Lists, damage, graphs, limits, orders, settings, texts};
-use crate::interface::{LentLengths, NUMBER_BYTES, Settings, f32_bytes, number_bytes};
-use crate::paper::Limits;
+use super::{Lists, damage, graphs, lifting, limits, orders, refusals, settings, texts};
+use crate::interface::{
+    LentLengths, NEVER, NUMBER_BYTES, Settings, f32_bytes, f32_list, number_bytes, numbers,
+};
 use crate::paper::run::check_settings;
+use crate::paper::{self, Graph, Limits, Outcome, Refusal};
 use crate::random::Random;
 
 /// An input of decode.
@@ -23,6 +25,21 @@ impl DecodeCase {
     /// How many columns it has.
     pub fn entries(&self) -> usize {
         self.columns.len() / NUMBER_BYTES
+    }
+
+    /// What the paper says of it.
+    pub fn outcome(&self) -> Result<Outcome, Refusal> {
+        let (starts, columns) = (numbers(&self.starts), numbers(&self.columns));
+        let graph = Graph { n: self.n, starts: &starts, columns: &columns };
+        let values = f32_list(&self.values);
+        let degrees = &mut vec![0; self.degrees / NUMBER_BYTES];
+        paper::decode(Limits::LENT, &graph, &values, &self.settings, degrees, &self.lent)
+    }
+
+    /// The same with nothing lifted.
+    pub fn unlifted(&self) -> DecodeCase {
+        let settings = Settings { lift_from: NEVER, ..self.settings };
+        DecodeCase { settings, ..self.clone() }
     }
 }
 
@@ -66,10 +83,12 @@ pub struct ProgramCase {
     pub run_text: Vec<u8>,
 }
 
-/// The inputs at the program's limits and one past them, and every order of refusals around
-/// the list of degrees; they are in every series.
+/// The inputs at the program's limits and one past them, every order of refusals around the
+/// list of degrees and of decode's others, and every admitted W; they are in every series.
 pub fn at_small_limits(random: &mut Random) -> Vec<Case> {
     let mut cases = orders::cases();
+    cases.extend(refusals::cases());
+    cases.extend(lifting::admitted_cases());
     let graphs: Vec<Lists> = limits::graphs(Limits::PROGRAM, random).collect();
     for lists in &graphs {
         cases.push(Case::Write(write_case(lists)));
@@ -114,7 +133,8 @@ pub fn decode_case(lists: &Lists, values: &[f32], settings: Settings) -> DecodeC
 /// A decode of few iterations.
 pub fn short_decode(random: &mut Random, lists: &Lists) -> DecodeCase {
     let values = settings::values(random, lists.n, 1.0);
-    let settings = Settings { limit: 3, ..settings::good(random) };
+    let mut settings = Settings { limit: 3, ..settings::good(random) };
+    lifting::lift(random, &mut settings);
     decode_case(lists, &values, settings)
 }
 
@@ -184,6 +204,10 @@ fn any_decode(random: &mut Random) -> DecodeCase {
     if large {
         settings.limit = settings.limit.min(10);
     }
+    lifting::lift(random, &mut settings);
+    if random.one_in(12) {
+        lifting::damage(random, &mut settings);
+    }
     if random.one_in(5) {
         (0..random.between(1, 2)).for_each(|_| settings::damage(random, &mut settings));
     }
@@ -199,7 +223,11 @@ fn any_decode(random: &mut Random) -> DecodeCase {
     case.starts = damage::ragged(random, case.starts);
     case.columns = damage::ragged(random, case.columns);
     case.values = damage::ragged(random, case.values);
-    DecodeCase { degrees: degrees_length(random, lists.n), lent, ..case }
+    case = DecodeCase { degrees: degrees_length(random, lists.n), lent, ..case };
+    if random.one_in(4) {
+        lifting::lift_around_stop(random, &mut case);
+    }
+    case
 }
 
 fn any_write(random: &mut Random) -> WriteCase {
@@ -237,13 +265,18 @@ fn any_twin(random: &mut Random) -> TwinCase {
     case
 }
 
-/// A decode that is accepted, and a codeword.
+/// A decode that is accepted, mostly with lifting on, and a codeword.
 fn any_twin_of(random: &mut Random, lists: &Lists) -> TwinCase {
-    let settings = settings::good(random);
+    let mut settings = settings::good(random);
+    lifting::lift(random, &mut settings);
     let factor = check_settings(&settings).map_or(1.0, |checked| checked.factor);
     let values = settings::values(random, lists.n, factor);
     let word = Codewords::new(lists).random(random);
-    TwinCase { decode: decode_case(lists, &values, settings), word }
+    let mut decode = decode_case(lists, &values, settings);
+    if random.one_in(4) {
+        lifting::lift_around_stop(random, &mut decode);
+    }
+    TwinCase { decode, word }
 }
 
 /// The program's inputs at its limits.

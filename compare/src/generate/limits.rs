@@ -2,7 +2,7 @@
 
 use super::graphs::{Lists, fullest, regular};
 use super::texts;
-use crate::interface::Settings;
+use crate::interface::{LARGEST_LIFT, NEVER, Settings};
 use crate::paper::Limits;
 use crate::random::Random;
 
@@ -110,6 +110,8 @@ pub fn programs() -> Vec<(Vec<u8>, Vec<u8>)> {
         phi_a: 0,
         phi_0: 0,
         limit: 99_999,
+        lift_from: NEVER,
+        lift_to: LARGEST_LIFT,
     };
     let largest_run = texts::run_text(&settings(1_111), &values);
     let larger_run = texts::run_text(&settings(11_111), &values);

@@ -3,7 +3,7 @@
 
 use super::Lists;
 use super::cases::{Case, DecodeCase, ReadCase, WriteCase, decode_case, read_case, write_case};
-use crate::interface::{LentLengths, NUMBER_BYTES, Settings, f32_bytes};
+use crate::interface::{LARGEST_LIFT, LentLengths, NEVER, NUMBER_BYTES, Settings, f32_bytes};
 
 const SETTINGS: Settings = Settings {
     kind: 0,
@@ -15,6 +15,8 @@ const SETTINGS: Settings = Settings {
     phi_a: 0,
     phi_0: 0,
     limit: 2,
+    lift_from: NEVER,
+    lift_to: LARGEST_LIFT,
 };
 
 pub fn cases() -> Vec<Case> {

@@ -1,11 +1,31 @@
 //! Settings and channel values.
 
-use crate::interface::Settings;
+use crate::interface::{LARGEST_LIFT, NEVER, Settings};
 use crate::random::Random;
 
-/// Settings that decode accepts.
+/// The admitted pairs of channel and message precision.
+pub const PRECISIONS: [(u32, u32); 4] = [(3, 3), (3, 2), (4, 4), (4, 3)];
+
+/// Settings that decode accepts, with a factor of 1, offsets of 0 and nothing lifted.
+pub fn plain((channel, message): (u32, u32)) -> Settings {
+    Settings {
+        kind: 1,
+        gain: 1.0,
+        variance: 2.0,
+        channel,
+        message,
+        phi_s: 0,
+        phi_a: 0,
+        phi_0: 0,
+        limit: 2,
+        lift_from: NEVER,
+        lift_to: LARGEST_LIFT,
+    }
+}
+
+/// Settings that decode accepts and a run text can say: nothing is lifted.
 pub fn good(random: &mut Random) -> Settings {
-    let (channel, message) = random.pick(&[(3, 3), (3, 2), (4, 4), (4, 3)]);
+    let (channel, message) = random.pick(&PRECISIONS);
     let limit = match random.below(8) {
         0 => 0,
         1 => 1,
@@ -23,6 +43,8 @@ pub fn good(random: &mut Random) -> Settings {
         phi_a: random.below(2) as u32,
         phi_0: random.below(2) as u32,
         limit: limit as u32,
+        lift_from: NEVER,
+        lift_to: LARGEST_LIFT,
     };
     if settings.kind == 0 && random.one_in(2) {
         settings.variance = odd_float(random);
@@ -53,7 +75,7 @@ pub fn odd_float(random: &mut Random) -> f32 {
     f32::from_bits(sign | bits)
 }
 
-/// Changes one setting to one that decode may turn down.
+/// Changes one setting to one that decode may turn down; lifting stays as it is.
 pub fn damage(random: &mut Random, settings: &mut Settings) {
     let precisions = [0, 1, 2, 3, 4, 5, 259, 1 << 31 | 3, u32::MAX];
     let past_1 = [2, 3, 255, 256, 257, 65_536, 65_537, 1 << 31, u32::MAX];

@@ -84,7 +84,7 @@ fn push_row(lists: &mut Lists, row: &[u32]) {
     lists.starts.push(lists.columns.len() as u32);
 }
 
-/// A decode that finds the codeword after some iterations, and twin runs.
+/// A decode that finds the codeword after some iterations, and twin runs; both lift.
 fn around_codeword(random: &mut Random, number: usize) -> Case {
     let (lists, word) = regular_with_codeword(random, VARIABLES, 3, 6);
     let values: Vec<f32> =
@@ -100,6 +100,8 @@ fn around_codeword(random: &mut Random, number: usize) -> Case {
         phi_a: 1,
         phi_0: 0,
         limit,
+        lift_from: 2,
+        lift_to: 9,
     };
     let decode = decode_case(&lists, &values, settings);
     match number {

@@ -35,7 +35,8 @@ fn decode(case: &DecodeCase) -> String {
     text += &format!("  values ({} bytes) {}\n", case.values.len(), listed(&values));
     text += &format!("  kind {} gain {} variance {}", s.kind, digits(&s.gain), digits(&s.variance));
     text += &format!(" channel {} message {}", s.channel, s.message);
-    text += &format!(" offsets {} {} {} limit {}\n", s.phi_s, s.phi_a, s.phi_0, s.limit);
+    text += &format!(" offsets {} {} {} limit {}", s.phi_s, s.phi_a, s.phi_0, s.limit);
+    text += &format!(" lifted from {} to {}\n", s.lift_from, s.lift_to);
     text += &format!("  lent bytes {}, then {}\n", case.degrees, listed(&case.lent.as_array()));
     text
 }

@@ -4,7 +4,8 @@ use crate::generate::Lists;
 use crate::generate::cases::{Case, DecodeCase, WriteCase};
 use crate::generate::graphs::without_idle_variables;
 use crate::interface::{
-    LentLengths, NUMBER_BYTES, Settings, f32_bytes, f32_list, number_bytes, numbers,
+    LARGEST_LIFT, LentLengths, NEVER, NUMBER_BYTES, Settings, f32_bytes, f32_list, number_bytes,
+    numbers,
 };
 use crate::paper::Limits;
 use std::ops::Range;
@@ -306,12 +307,19 @@ fn with_settings(case: &Case, settings: Settings) -> Case {
     with_decode(case, |decode| decode.settings = settings)
 }
 
-/// Settings that are plainer in one way each.
+/// Settings that are plainer in one way each. Nothing lifted is plainest, then lifting from
+/// early on, so that the limit may come down.
 fn plainer_settings(case: &Case) -> Vec<Settings> {
     let Some(&DecodeCase { settings: s, .. }) = decode_of(case) else {
         return Vec::new();
     };
+    let lifts_late = (2..NEVER).contains(&s.lift_from);
     let candidates = [
+        (s.lift_from != NEVER, Settings { lift_from: NEVER, ..s }),
+        (s.lift_to != LARGEST_LIFT, Settings { lift_to: LARGEST_LIFT, ..s }),
+        (s.lift_from > NEVER + 1, Settings { lift_from: NEVER + 1, ..s }),
+        (lifts_late, Settings { lift_from: 1, ..s }),
+        (lifts_late, Settings { lift_from: s.lift_from.saturating_sub(1), ..s }),
         (s.limit > 0, Settings { limit: s.limit / 2, ..s }),
         (s.limit > 0, Settings { limit: s.limit.saturating_sub(1), ..s }),
         (s.kind != 0, Settings { kind: 0, ..s }),

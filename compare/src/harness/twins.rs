@@ -1,5 +1,6 @@
 //! Twin runs: values negated where a codeword is 1 give the mirrored run, by the decoder
-//! alone. Where the word is no codeword, some iteration limit shows a difference.
+//! alone, with lifting off and on: "the codeword symmetry include[s] lifting". Where the word is
+//! no codeword, some iteration limit shows a difference.
 
 use super::series::Seen;
 use crate::generate::cases::{DecodeCase, TwinCase};

@@ -5,7 +5,7 @@ use super::run::{Outcome, decode};
 use super::sheet::{Sheet, read_sheet};
 use super::text::{Text, decimal, f32_of_digits, words};
 use super::{Refusal, refuse};
-use crate::interface::{LentLengths, Settings, Verdict};
+use crate::interface::{LARGEST_LIFT, LentLengths, NEVER, Settings, Verdict};
 
 const MOST_BYTES: usize = 65_536;
 const MOST_DIGITS: usize = 5;
@@ -67,6 +67,7 @@ fn read_run_text(bytes: &[u8], sheet: &Sheet) -> Result<(Settings, Vec<f32>), Re
     Ok((settings, values))
 }
 
+/// "Run text means L 256"; W then never shows.
 fn settings_of_line(kind: u32, line: &[u8]) -> Option<Settings> {
     let words = words(line);
     let floats = 1 + kind as usize;
@@ -87,6 +88,8 @@ fn settings_of_line(kind: u32, line: &[u8]) -> Option<Settings> {
         phi_a: setting(3)?,
         phi_0: setting(4)?,
         limit: setting(5)?,
+        lift_from: NEVER,
+        lift_to: LARGEST_LIFT,
     })
 }
 

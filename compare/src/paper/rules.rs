@@ -10,6 +10,13 @@ pub struct Offsets {
     pub phi_0: u8,
 }
 
+/// L and W. "256 means never", and then there is no L here.
+#[derive(Clone, Copy, Debug)]
+pub struct Lifting {
+    pub from: Option<usize>,
+    pub to: u8,
+}
+
 /// Iteration 0: "every variable sends its channel sign with the smaller of its channel
 /// magnitude and Nq."
 pub fn first_message(channel: Level, nq: u8) -> Level {
@@ -29,6 +36,16 @@ pub fn check_message(incoming: &[Level], recipient: usize) -> Level {
     message
 }
 
+/// "From iteration L on, a check message of magnitude Nq counts as magnitude W in the
+/// variable's sum and in the posterior sum." It is sent as it is.
+pub fn counted(message: Level, iteration: usize, nq: u8, lifting: Lifting) -> Level {
+    let lifts = lifting.from.is_some_and(|from| from <= iteration);
+    match lifts && message.magnitude == nq {
+        true => Level { magnitude: lifting.to, ..message },
+        false => message,
+    }
+}
+
 /// "e applies to the channel level only and is 0 for d = 2, 1 for odd d, 2 for even d
 /// from 4."
 pub fn channel_extra(degree: usize) -> i32 {
@@ -45,7 +62,7 @@ fn in_halves(level: Level, extra: i32) -> i32 {
     if level.minus { -size } else { size }
 }
 
-/// "s(2M + e) plus, over all d incoming messages, s(2M + 1)."
+/// "s(2M + e) plus, over all d incoming messages, s(2M + 1)", the messages as they count.
 pub fn posterior_sum(channel: Level, incoming: &[Level]) -> i32 {
     let messages = incoming.iter().map(|&message| in_halves(message, 1));
     in_halves(channel, channel_extra(incoming.len())) + messages.sum::<i32>()
@@ -57,7 +74,8 @@ pub fn bit(sum: i32, channel: Level) -> u8 {
     u8::from(one)
 }
 
-/// "U, the outgoing variable sum, is the same sum without the message from that check."
+/// "U, the outgoing variable sum, is the same sum without the message from that check", the
+/// messages as they count.
 pub fn outgoing_sum(channel: Level, incoming: &[Level], recipient: usize) -> i32 {
     let mut sum = in_halves(channel, channel_extra(incoming.len()));
     for (sender, &message) in incoming.iter().enumerate() {

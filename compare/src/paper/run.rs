@@ -4,10 +4,11 @@ use super::graph::{Graph, check_graph, odd_checks};
 use super::limits::Limits;
 use super::quantiser::{Level, Scaling, largest_magnitude, quantise};
 use super::rules::{
-    Offsets, bit, check_message, first_message, outgoing_sum, posterior_sum, variable_message,
+    Lifting, Offsets, bit, check_message, counted, first_message, outgoing_sum, posterior_sum,
+    variable_message,
 };
 use super::{Refusal, refuse};
-use crate::interface::{LentLengths, Settings, Verdict};
+use crate::interface::{LARGEST_LIFT, LentLengths, NEVER, Settings, Verdict};
 
 /// What an accepted decode reports and leaves in the lent memory.
 #[derive(Clone, Debug, PartialEq, Eq)]
@@ -30,6 +31,7 @@ pub struct Checked {
     pub nq: u8,
     pub offsets: Offsets,
     pub limit: usize,
+    pub lifting: Lifting,
 }
 
 pub fn decode(
@@ -54,7 +56,7 @@ pub fn decode(
     Ok(run(graph, values, &checked))
 }
 
-/// 8, 9, 10 and 11, in that order.
+/// 8, 9, 16, 10 and 11, in that order.
 pub fn check_settings(settings: &Settings) -> Result<Checked, Refusal> {
     let (channel, message) = (settings.channel, settings.message);
     let channel_admitted = channel == 3 || channel == 4;
@@ -65,6 +67,8 @@ pub fn check_settings(settings: &Settings) -> Result<Checked, Refusal> {
     if offsets.iter().any(|&offset| offset > 1) || settings.limit > 255 {
         return refuse(9, 0);
     }
+    let nq = largest_magnitude(message);
+    let lifting = lifting(settings, nq)?;
     let factor = scaling(settings)?.factor();
     if factor.is_infinite() || factor == 0.0 {
         return refuse(11, 0);
@@ -72,14 +76,25 @@ pub fn check_settings(settings: &Settings) -> Result<Checked, Refusal> {
     Ok(Checked {
         factor,
         nch: largest_magnitude(channel),
-        nq: largest_magnitude(message),
+        nq,
         offsets: Offsets {
             phi_s: settings.phi_s as u8,
             phi_a: settings.phi_a as u8,
             phi_0: settings.phi_0 as u8,
         },
         limit: settings.limit as usize,
+        lifting,
     })
+}
+
+/// "L is 1 to 256, where 256 means never, and W is Nq + 1 to 15. [...] It refuses a W or L
+/// outside these bounds with 16, directly after 9."
+fn lifting(settings: &Settings, nq: u8) -> Result<Lifting, Refusal> {
+    let (from, to) = (settings.lift_from, settings.lift_to);
+    if !(1..=NEVER).contains(&from) || !(u32::from(nq) + 1..=LARGEST_LIFT).contains(&to) {
+        return refuse(16, 0);
+    }
+    Ok(Lifting { from: (from != NEVER).then_some(from as usize), to: to as u8 })
 }
 
 /// "Kind 0 is a plain gain (variance unread), 1 a gain with variance; another kind gets
@@ -131,7 +146,7 @@ fn run(graph: &Graph, values: &[f32], settings: &Checked) -> Outcome {
         // The last step of this iteration; iteration 0 has sent its messages already.
         if iterations > 0 {
             for (variable, entries) in entries_of_variables.iter().enumerate() {
-                let incoming = gathered(&check_messages, entries);
+                let incoming = counted_in(iterations, settings, &check_messages, entries);
                 for (recipient, &entry) in entries.iter().enumerate() {
                     let u = outgoing_sum(levels[variable], &incoming, recipient);
                     variable_messages[entry] = variable_message(u, settings.nq, settings.offsets);
@@ -146,13 +161,20 @@ fn run(graph: &Graph, values: &[f32], settings: &Checked) -> Outcome {
             }
         }
         for (variable, entries) in entries_of_variables.iter().enumerate() {
-            let incoming = gathered(&check_messages, entries);
+            let incoming = counted_in(iterations, settings, &check_messages, entries);
             sums[variable] = posterior_sum(levels[variable], &incoming);
             bits[variable] = bit(sums[variable], levels[variable]);
         }
     }
 }
 
-fn gathered(messages: &[Level], entries: &[usize]) -> Vec<Level> {
-    entries.iter().map(|&entry| messages[entry]).collect()
+/// The check messages at these entries as they count in an iteration's sums.
+fn counted_in(
+    iteration: usize,
+    settings: &Checked,
+    check_messages: &[Level],
+    entries: &[usize],
+) -> Vec<Level> {
+    let messages = entries.iter().map(|&entry| check_messages[entry]);
+    messages.map(|message| counted(message, iteration, settings.nq, settings.lifting)).collect()
 }

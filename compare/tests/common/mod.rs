@@ -1,7 +1,7 @@
 //! Small functions for the tests that are worked out from the paper by hand.
 #![allow(dead_code)]
 
-use compare::interface::{LentLengths, Settings};
+use compare::interface::{LARGEST_LIFT, LentLengths, NEVER, Settings};
 use compare::paper::{Graph, Level, Limits, Outcome, Refusal, decode};
 
 pub fn plus(magnitude: u8) -> Level {
@@ -34,6 +34,8 @@ pub fn example_settings() -> Settings {
         phi_a: 1,
         phi_0: 0,
         limit: 5,
+        lift_from: NEVER,
+        lift_to: LARGEST_LIFT,
     }
 }
 

@@ -1,7 +1,9 @@
--- Document 01, 'Decode', refusals 8 to 11: the settings, or why they are turned down.
+-- Document 01, 'Decode', refusals 8 to 11, and document 02, item 1, refusal 16: the settings, or why they are turned down.
 use mathlib.Core.Bool.{Bool, not, _&&_, _||_}
 use Prim.Native.Nat.{ℕ, _-_}
-use lib.Dec.{eqb, leb}
+use lib.Dec.{eqb, leb, ltb}
+use Rattle.rules.specs.Levels.{largest}
+use Rattle.rules.specs.Nodes.{never}
 use Rattle.rules.specs.Refusals.{unless, orElse}
 use Rattle.rules.specs.declared.Refusal.the-variants as Refusal
 use Rattle.rules.specs.declared.Judged.{Judged}
@@ -12,6 +14,10 @@ use Rattle.channel.specs.declared.Checked.{Checked}
 use Rattle.channel.specs.declared.Checked.the-variants.{Good, Refused}
 use Rattle.channel.specs.Scaling.{factorOf, scalingAdmitted, infiniteOrZero}
 
+-- The largest W.
+abbrev pub largestLift : ℕ
+largestLift = 15
+
 -- 'Channel precision is 3 or 4 bits, message precision equal to it or one less.'
 abbrev pub precisionsAdmitted : ℕ → ℕ → Bool
 precisionsAdmitted channel message = (eqb channel 3 || eqb channel 4) && (eqb message channel || eqb message (channel - 1))
@@ -21,16 +27,25 @@ module _ (p : Parameters) where
   abbrev pub optionsAdmitted : Bool
   optionsAdmitted = leb (p .«phi_s») 1 && leb (p .«phi_a») 1 && leb (p .«phi_0») 1 && leb (p .limit) 255
 
-  -- '8, precisions not admitted; 9, an offset above 1 or limit above 255; 10, gain or variance not finite and above zero; 11, factor
-  -- infinite or zero.'
-  abbrev pub settingsJudged : Judged
-  settingsJudged =
+  -- 'L is 1 to 256', 'W is Nq + 1 to 15'.
+  abbrev pub liftingAdmitted : Bool
+  liftingAdmitted = leb 1 (p .«lift_from») && leb (p .«lift_from») never && ltb (largest (p .message)) (p .«lift_to») && leb (p .«lift_to») largestLift
+
+  -- '8, precisions not admitted; 9, an offset above 1 or limit above 255'; then l, what is found of the lifting; '10, gain or variance not
+  -- finite and above zero; 11, factor infinite or zero.'
+  abbrev pub judgedWith : Judged → Judged
+  judgedWith l =
       orElse (unless (precisionsAdmitted (p .channel) (p .message)) Refusal.Precision)
       (orElse (unless optionsAdmitted Refusal.Option)
+      (orElse l
       (orElse (unless (scalingAdmitted (p .scaling)) Refusal.Scaling)
-      (unless (not (infiniteOrZero (factorOf (p .scaling)))) Refusal.Factor)))
+      (unless (not (infiniteOrZero (factorOf (p .scaling)))) Refusal.Factor))))
 
-  -- The factor, beside the precisions in bits, the offsets and the limit as they were given.
+  -- 'It refuses a W or L outside these bounds with 16, directly after 9.'
+  abbrev pub settingsJudged : Judged
+  settingsJudged = judgedWith (unless liftingAdmitted Refusal.Lifting)
+
+  -- The factor, beside the precisions in bits, the offsets, the limit, L and W as they were given.
   abbrev pub settings : Settings
   settings = record {
     factor = factorOf (p .scaling);
@@ -40,6 +55,8 @@ module _ (p : Parameters) where
     «phi_a» = p .«phi_a»;
     «phi_0» = p .«phi_0»;
     limit = p .limit;
+    «lift_from» = p .«lift_from»;
+    «lift_to» = p .«lift_to»;
   }
 
 -- The settings, unless they were turned down.

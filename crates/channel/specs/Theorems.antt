@@ -5,6 +5,8 @@ use mathlib.Core.List.{List}
 use Prim.Native.Nat.{ℕ, _/_, _≤_, _<_}
 use lib.Ieee.{Float}
 use lib.ListN.{length}
+use Rattle.rules.specs.Levels.{largest}
+use Rattle.rules.specs.Nodes.{never}
 use Rattle.rules.specs.Symmetry.{turned}
 use Rattle.rules.specs.declared.Judged.the-variants.{Admitted}
 use Rattle.channel.specs.declared.Parameters.{Parameters}
@@ -12,7 +14,7 @@ use Rattle.channel.specs.declared.Settings.{Settings}
 use Rattle.channel.specs.declared.Checked.the-variants.{Good}
 use Rattle.channel.specs.Scaling.{positive}
 use Rattle.channel.specs.Quantiser.{levelFor}
-use Rattle.channel.specs.Settings.{settings, settingsOf}
+use Rattle.channel.specs.Settings.{largestLift, judgedWith, settingsJudged, settings, settingsOf}
 use Rattle.channel.specs.Values.{valuesJudged, channelLevel}
 use Rattle.channel.specs.Reversal.{Bytes, reversed}
 
@@ -27,9 +29,14 @@ pub record Admissible (s : Settings) : Type 0 where
   pub message : (2 ≤ s .message) × (s .message ≤ s .channel)
   pub offsets : (s .«phi_s» ≤ 1) × (s .«phi_a» ≤ 1) × (s .«phi_0» ≤ 1)
   pub limit : s .limit ≤ 255
+  pub lifting : (1 ≤ s .«lift_from») × (s .«lift_from» ≤ never) × (largest (s .message) < s .«lift_to») × (s .«lift_to» ≤ largestLift)
 
 abbrev pub GoodSettings : Type 0
 GoodSettings = (p : Parameters) (s : Settings) → settingsOf p ≡ Good s → (s ≡ settings p) × Admissible s
+
+-- L = 256 with W = 15, which the run text means, is admitted at every precision: such settings are judged as they were before there was 16.
+abbrev pub JudgedAsBefore : Type 0
+JudgedAsBefore = (p : Parameters) → p .«lift_from» ≡ never → p .«lift_to» ≡ largestLift → settingsJudged p ≡ judgedWith p Admitted
 
 -- Values with signs reversed are turned down where the values are, at the same index.
 abbrev pub ReversedJudged : Type 0

@@ -4,10 +4,10 @@ ghost use mathlib.Core.Bool.{cond};
 ghost use Prim.Native.Nat.{_<_, _≤_, min};
 ghost use lib.Ieee.{binary32, ofBits};
 ghost use lib.Ieee.Scale.{finite};
-ghost use Rattle.rules.specs.Levels.{byte};
+ghost use Rattle.rules.specs.Levels.{byte, largest};
 ghost use Rattle.channel.specs.Scaling.{positive, factorOf, scalingAdmitted};
 ghost use Rattle.channel.specs.Quantiser.{signBit, size, wholesBelow, levelFor};
-ghost use Rattle.channel.specs.Settings.{precisionsAdmitted, optionsAdmitted, settingsOf};
+ghost use Rattle.channel.specs.Settings.{precisionsAdmitted, optionsAdmitted, liftingAdmitted, settingsOf};
 ghost use Rattle.channel.specs.Values.{valuesJudged, quantised};
 use rules::Judged;
 use rules::Refusal;
@@ -18,7 +18,13 @@ pub enum Scaling {
     Noise(f32, f32),
 }
 
-// What is asked of a run, as it is given, any numbers: the scaling, the precisions in bits, the offsets and the limit.
+// The L of a run in which nothing is lifted, and the largest W.
+pub const NEVER: u32 = 256;
+
+pub const LARGEST_LIFT: u32 = 15;
+
+// What is asked of a run, as it is given, any numbers: the scaling, the precisions in bits, the offsets, the limit, and L and W: from
+// iteration `lift_from` on a saturated check message counts as magnitude `lift_to`.
 pub struct Parameters {
     pub scaling: Scaling,
     pub channel: u32,
@@ -27,6 +33,8 @@ pub struct Parameters {
     pub phi_a: u32,
     pub phi_0: u32,
     pub limit: u32,
+    pub lift_from: u32,
+    pub lift_to: u32,
 }
 
 // The same once it is checked, with the factor of the scaling.
@@ -38,6 +46,8 @@ pub struct Settings {
     pub phi_a: u8,
     pub phi_0: u8,
     pub limit: u8,
+    pub lift_from: u16,
+    pub lift_to: u8,
 }
 
 // What a check of settings finds.
@@ -93,6 +103,29 @@ fn options_admitted(p: Parameters) -> bool
     (p.phi_s <= 1) & (p.phi_a <= 1) & (p.phi_0 <= 1) & (p.limit <= 255)
 }
 
+// The largest magnitude of a precision in bits.
+pub fn largest(bits: u8) -> u8
+    requires { ⌜ (2 ≤ bits) × (bits ≤ 4) ⌝ }
+    ensures { λ r. ⌜ r ≡ largest bits ⌝ }
+{
+    if bits == 2 {
+        return 1;
+    }
+    if bits == 3 {
+        return 3;
+    }
+    7
+}
+
+// Whether L and W are within their bounds.
+fn lifting_admitted(p: Parameters) -> bool
+    requires { ⌜ (2 ≤ p .message) × (p .message ≤ 4) ⌝ }
+    ensures { λ r. ⌜ r ≡ liftingAdmitted p ⌝ }
+{
+    let most = largest(p.message as u8) as u32;
+    (1 <= p.lift_from) & (p.lift_from <= NEVER) & (most < p.lift_to) & (p.lift_to <= LARGEST_LIFT)
+}
+
 // The settings, or why they are turned down.
 pub fn check_settings(p: Parameters) -> Checked
     ensures { λ r. ⌜ r ≡ settingsOf p ⌝ }
@@ -102,6 +135,9 @@ pub fn check_settings(p: Parameters) -> Checked
     }
     if !options_admitted(p) {
         return Checked::Refused(Refusal::Option);
+    }
+    if !lifting_admitted(p) {
+        return Checked::Refused(Refusal::Lifting);
     }
     let scaling = p.scaling;
     if !scaling_admitted(scaling) {
@@ -119,6 +155,8 @@ pub fn check_settings(p: Parameters) -> Checked
         phi_a: p.phi_a as u8,
         phi_0: p.phi_0 as u8,
         limit: p.limit as u8,
+        lift_from: p.lift_from as u16,
+        lift_to: p.lift_to as u8,
     })
 }
 

@@ -6,8 +6,8 @@ use Rattle.rules.specs.Tables.{failures}
 use Rattle.rules.specs.Ranges.{fold, but, count, joined, tabulate, first}
 use Rattle.rules.specs.Levels.{byte}
 use Rattle.rules.specs.Graphs.{variableDegree, checkOf, oddCheck, unsatisfied}
-use Rattle.rules.specs.Nodes.{firstMessage, firstBit, others, fromCheck, contribution, odd, extra, channelPart, share, posterior, outgoingSum, outgoingMagnitude, outgoing, fromVariable}
-use Rattle.rules.specs.Sequence.{signPreserving, begun, sentIn, sent, iterated, next, state, unsatisfiedIn, stop, final, report}
+use Rattle.rules.specs.Nodes.{firstMessage, firstBit, others, fromCheck, lifts, lifted, counted, contribution, odd, extra, channelPart, share, posterior, outgoingSum, outgoingMagnitude, outgoing, fromVariable}
+use Rattle.rules.specs.Sequence.{unlifted, signPreserving, begun, sentIn, sent, iterated, next, state, unsatisfiedIn, stop, final, report}
 use Rattle.rules.specs.Trials as Nodes
 use Rattle.rules.specs.Trials.{star, fan}
 use Rattle.words.specs.Words.{word, bytes}
@@ -16,5 +16,5 @@ use Rattle.channel.specs.Trials as Levels
 use Rattle.decoder.specs.Trials.{inBytes, example, trials, passes, TrialsPass}
 
 pub trials-pass : TrialsPass
-unfolding xor mul lt ofInt ofBits fold but count joined tabulate first byte variableDegree checkOf oddCheck unsatisfied firstMessage firstBit others fromCheck contribution odd extra channelPart share posterior outgoingSum outgoingMagnitude outgoing fromVariable signPreserving begun sentIn sent iterated next state unsatisfiedIn stop final report star fan Nodes.example Nodes.trials Nodes.passes word bytes wholesBelow levelFor Levels.trials Levels.passes inBytes example trials passes failures
+unfolding xor mul lt ofInt ofBits fold but count joined tabulate first byte variableDegree checkOf oddCheck unsatisfied firstMessage firstBit others fromCheck lifts lifted counted contribution odd extra channelPart share posterior outgoingSum outgoingMagnitude outgoing fromVariable unlifted signPreserving begun sentIn sent iterated next state unsatisfiedIn stop final report star fan Nodes.example Nodes.trials Nodes.passes word bytes wholesBelow levelFor Levels.trials Levels.passes inBytes example trials passes failures
 trials-pass = refl

@@ -12,8 +12,8 @@ use mir.Val.{ofZ}
 use Rattle.rules.specs.Ranges.{joined, one, tabulate}
 use Rattle.rules.specs.Levels.{Level, byte, levelOf, plusZero}
 use Rattle.rules.specs.Graphs.{Graph, Admitted, variableDegree}
-use Rattle.rules.specs.Nodes.{Offsets, firstMessage, firstBit}
-use Rattle.rules.specs.Sequence.{signPreserving, begun, final, report}
+use Rattle.rules.specs.Nodes.{Offsets, Lifting, firstMessage, firstBit}
+use Rattle.rules.specs.Sequence.{unlifted, signPreserving, begun, final, report}
 use Rattle.rules.specs.declared.Report.{Report}
 use Rattle.rules.proofs.Ranges.{getD-tabulate, length-tabulate}
 use Rattle.rules.proofs.Same.{final-same, report-same}
@@ -42,14 +42,14 @@ pub begins-as : {values : List ℕ} {factor : Float} {Nch Nq Nch′ Nq′ : ℕ}
 begins-as {values} {factor} {Nch} {Nq} {Nch′} {Nq′} {columns} {E} {s} {y} {q} {C} {S} {b} e f h =
     subst (λ (k : ℕ). Begins values factor k Nq′ columns E s y q C S b) e (subst (λ (k : ℕ). Begins values factor Nch k columns E s y q C S b) f h)
 
-module _ (n : ℕ) (starts columns : List ℕ) (Nq : ℕ) (φ : Offsets) {values : List ℕ} {factor : Float} {Nch : ℕ} {y q C S b : List ℕ}
+module _ (n : ℕ) (starts columns : List ℕ) (Nq : ℕ) (φ : Offsets) (Λ : Lifting) {values : List ℕ} {factor : Float} {Nch : ℕ} {y q C S b : List ℕ}
     {E s : ℕ} (begins : Begins values factor Nch Nq columns E s y q C S b) (many : length values / 4 ≡ n) where
   pub begun-length : length y ≡ n
   begun-length = ap length (begins .levels) ∙ length-tabulate (λ v. byte (channelLevel Nch factor values v)) (length values / 4) ∙ many
 
   pub begun-holds : E ≡ length columns / wide → s ≡ 4 * n
-      → Holds (graphOf n starts columns) (begun (graphOf n starts columns) (signPreserving (graphOf n starts columns) Nq φ (levelIn y))) q C S b
-  unfolding signPreserving begun firstMessage firstBit byte
+      → Holds (graphOf n starts columns) (begun (graphOf n starts columns) (signPreserving (graphOf n starts columns) Nq φ Λ (levelIn y))) q C S b
+  unfolding signPreserving unlifted begun firstMessage firstBit byte
   begun-holds e f = record {
     variableMessages = begins .variableMessages ∙ sym (map-tabulate byte (firstMessage (graphOf n starts columns) Nq (levelIn y)) (length columns / wide));
     checkMessages = begins .checkMessages ∙ ap (tabulate (λ k. 0)) e ∙ sym (map-tabulate byte (λ e. plusZero) (length columns / wide));
@@ -85,11 +85,11 @@ counted-degrees G {d} t ok e = record {
 }
 
 -- the run from the levels in bytes is the run from the channel levels
-pub runs-same : (G : Graph) → Admitted G → (Nq : ℕ) (φ : Offsets) (y y′ : ℕ → Level) → ((v : ℕ) → v < G .variables → y v ≡ y′ v) → {limit : ℕ} {r : Report} {q C S b : List ℕ}
-    → Runs G (signPreserving G Nq φ y) limit r q C S b → Runs G (signPreserving G Nq φ y′) limit r q C S b
-runs-same G ok Nq φ y y′ h {limit} {r} {q} {C} {S} {b} w = record {
-  report = w .report ∙ report-same G ok Nq φ y y′ h limit;
-  holds = subst (λ σ. Holds G σ q C S b) (final-same G ok Nq φ y y′ h limit) (w .holds);
+pub runs-same : (G : Graph) → Admitted G → (Nq : ℕ) (φ : Offsets) (Λ : Lifting) (y y′ : ℕ → Level) → ((v : ℕ) → v < G .variables → y v ≡ y′ v) → {limit : ℕ} {r : Report} {q C S b : List ℕ}
+    → Runs G (signPreserving G Nq φ Λ y) limit r q C S b → Runs G (signPreserving G Nq φ Λ y′) limit r q C S b
+runs-same G ok Nq φ Λ y y′ h {limit} {r} {q} {C} {S} {b} w = record {
+  report = w .report ∙ report-same G ok Nq φ Λ y y′ h limit;
+  holds = subst (λ σ. Holds G σ q C S b) (final-same G ok Nq φ Λ y y′ h limit) (w .holds);
 }
 
 -- the run in the front of memory that may be longer: M before, M′ after

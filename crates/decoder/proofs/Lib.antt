@@ -1,5 +1,6 @@
 pub mod Answers
 pub mod Stepping
+pub mod Lifting
 pub mod Running
 pub mod Beginning
 pub mod Accepting

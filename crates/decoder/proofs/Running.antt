@@ -16,23 +16,26 @@ use mir.Val.{ofZ}
 use Rattle.rules.specs.Ranges.{fold, one, tabulate}
 use Rattle.rules.specs.Levels.{Level, byte, levelOf, plusZero}
 use Rattle.rules.specs.Graphs.{Graph, limits, Admitted, variableDegree, unsatisfied}
-use Rattle.rules.specs.Nodes.{Offsets, fromCheck, contribution, channelPart, share, posterior, bitOf, outgoing, fromVariable}
-use Rattle.rules.specs.Sequence.{Scheme, signPreserving, levelAt, bitAt, begun, sentIn, sent, iterated, next, state, unsatisfiedIn, stop, final, report}
+use Rattle.rules.specs.Nodes.{Offsets, Lifting, fromCheck, counted, contribution, channelPart, share, posterior, bitOf, outgoing}
+use Rattle.rules.specs.Sequence.{Scheme, unlifted, countedIn, signPreserving, levelAt, bitAt, begun, sentIn, sent, iterated, next, state, unsatisfiedIn, stop, final, report}
 use Rattle.rules.specs.declared.Report.{Report}
-use Rattle.rules.proofs.Ranges.{tabulate-ext, length-tabulate, getD-tabulate, first-is, first-only}
+use Rattle.rules.proofs.Ranges.{tabulate-ext, length-tabulate, first-is, first-only}
 use Rattle.rules.proofs.Filling.{map-tabulate}
 use Rattle.rules.proofs.Own.{level-bytes}
-use Rattle.rules.proofs.Parity.{outgoing-is-rest}
+use Rattle.rules.specs.Theorems.{heaviest}
+use Rattle.rules.proofs.Simulation.{sum-at, sent-is}
+use Rattle.rules.proofs.Lifts.{sent-is-rest}
 use Rattle.rules.proofs.Bounds.{messages-within, sums-bounded}
 use Rattle.words.specs.Roles.{sumAt, bitOfByte}
 use Rattle.words.proofs.Words.{table-ext}
 use Rattle.nodes.specs.Memory.{levelIn}
-use Rattle.nodes.specs.Lists.{Parts, shareIn, sentBy}
+use Rattle.nodes.specs.Lists.{shareIn, sentBy}
 use Rattle.nodes.proofs.Leaves.{magnitude-small}
-use Rattle.nodes.proofs.SumLaws.{contribution-small, parts-are, parts-of}
+use Rattle.nodes.proofs.SumLaws.{parts-are}
 use Rattle.nodes.proofs.Outgoing.{outgoing-saturates, sent-by}
-use Rattle.decoder.specs.Steps.{Holds, Sized, sumBy, Iterates, sends, whenSent, reportAt, Lists, Runs}
+use Rattle.decoder.specs.Steps.{Holds, Sized, sumBy, Iterates, sends, whenSent, reportAt, partsIn, Messages, Runs}
 use Rattle.decoder.proofs.Stepping.{sum-in, extra-small}
+use Rattle.decoder.proofs.Lifting.{heaviest-small}
 
 -- ---- lists in bytes
 
@@ -68,36 +71,42 @@ bits-of l = fun-ext (λ v. ap (λ k. eqb k 1) (List·getD-map one l v false) ∙
 sent-later : (t : ℕ) (q q′ : List ℕ) → whenSent (sends false (suc t)) q q′ ≡ q′
 sent-later t q q′ = ap (λ b. whenSent (not b) q q′) (ne-eqb (suc t) 0 (omega arith))
 
-module _ (G : Graph) (ok : Admitted G) (Nq : ℕ) (φ : Offsets) (small : Nq < 8) (y : List ℕ) where
+module _ (G : Graph) (ok : Admitted G) (Nq : ℕ) (φ : Offsets) (Λ : Lifting) (small : Nq < 8) (more : Nq < Λ .to) (most : Λ .to ≤ 15) (y : List ℕ) where
   abbrev pub R : Scheme
-  R = signPreserving G Nq φ (levelIn y)
+  R = signPreserving G Nq φ Λ (levelIn y)
 
   -- ---- messages and sums of a state
 
   sent-length : (t : ℕ) → length (sent G R (state G R t)) ≡ G .entries
-  unfolding signPreserving state begun next iterated sent sentIn
+  unfolding signPreserving unlifted state begun sent sentIn
   sent-length zero = length-tabulate (R .firstMessage) (G .entries)
-  sent-length (suc t) = length-tabulate (R .variable (levelAt (state G R (suc t) .checkMessages))) (G .entries)
+  sent-length (suc t) = ap length (sent-is G R t) ∙ length-tabulate (R .variable (suc t) (levelAt (state G R (suc t) .checkMessages))) (G .entries)
 
   received-length : (t : ℕ) → length (state G R t .checkMessages) ≡ G .entries
-  unfolding signPreserving state begun next iterated
+  unfolding signPreserving unlifted state begun next iterated
   received-length zero = length-tabulate (λ e. plusZero) (G .entries)
   received-length (suc t) = length-tabulate (R .check (levelAt (sent G R (state G R t)))) (G .entries)
 
   sent-levels : (t : ℕ) → levelIn (map byte (sent G R (state G R t))) ≡ levelAt (sent G R (state G R t))
-  sent-levels t = levels-of (sent G R (state G R t)) (λ e l. omega (arith, messages-within G ok Nq φ (levelIn y) t e (omega (arith, sent-length t)) .0))
+  sent-levels t = levels-of (sent G R (state G R t)) (λ e l. omega (arith, messages-within G ok Nq φ Λ (levelIn y) t e (omega (arith, sent-length t)) .0))
 
   received-levels : (t : ℕ) → levelIn (map byte (state G R t .checkMessages)) ≡ levelAt (state G R t .checkMessages)
-  received-levels t = levels-of (state G R t .checkMessages) (λ e l. omega (arith, messages-within G ok Nq φ (levelIn y) t e (omega (arith, received-length t)) .1))
+  received-levels t = levels-of (state G R t .checkMessages) (λ e l. omega (arith, messages-within G ok Nq φ Λ (levelIn y) t e (omega (arith, received-length t)) .1))
 
   received-byte : (t : ℕ) {C : List ℕ} → C ≡ map byte (state G R t .checkMessages) → (e : ℕ) → getD C e 0 < 256
-  received-byte t e k = rw e (bytes-of (state G R t .checkMessages) (λ e l. omega (arith, messages-within G ok Nq φ (levelIn y) t e (omega (arith, received-length t)) .1)) k)
+  received-byte t e k = rw e (bytes-of (state G R t .checkMessages) (λ e l. omega (arith, messages-within G ok Nq φ Λ (levelIn y) t e (omega (arith, received-length t)) .1)) k)
 
   sums-small : (t v : ℕ) → v < G .variables → natAbs (getD (state G R t .sums) v (pos 0)) ≤ 256 + 255 * limits .variableDegree
   sums-small t v l =
       let d : variableDegree G v ≤ limits .variableDegree = ok .variableDegrees v l .1 in
-      let s : variableDegree G v * (2 * Nq + 1) ≤ limits .variableDegree * (2 * Nq + 1) = mul-le-mul-right (2 * Nq + 1) d in
-      omega (arith, sums-bounded G ok 127 Nq φ (levelIn y) (λ v _. magnitude-small (getD y v 0)) t v l, extra-small (variableDegree G v))
+      let N : ℕ = heaviest Nq Λ t in
+      let s : variableDegree G v * (2 * N + 1) ≤ limits .variableDegree * (2 * N + 1) = mul-le-mul-right (2 * N + 1) d in
+      omega (
+        arith,
+        sums-bounded G ok 127 Nq φ Λ (omega arith) (levelIn y) (λ v _. magnitude-small (getD y v 0)) t v l,
+        extra-small (variableDegree G v),
+        heaviest-small Nq Λ t (omega arith) most,
+      )
 
   -- ---- from one iteration to the next
 
@@ -111,67 +120,72 @@ module _ (G : Graph) (ok : Admitted G) (Nq : ℕ) (φ : Offsets) (small : Nq < 8
   -- the lists of the run
   module _ {parts : List ℤ} {messages : List ℕ} where
     -- what is sent at an entry
-    sent-at : (t : ℕ) {q C S b : List ℕ} → Lists Nq φ (suc t) parts messages → Holds G (state G R (suc t)) q C S b → (e : ℕ) → e < G .entries
-        → sentBy parts messages (G .column) S C e ≡ byte (fromVariable G Nq φ (levelIn y) (levelAt (state G R (suc t) .checkMessages)) e)
-    unfolding signPreserving state next iterated fromVariable
-    sent-at t {q} {C} {S} {b} lists holds e u =
-        sent-by (outgoing Nq φ) (λ b. contribution 1 (levelOf b)) (lists .outgoings (omega arith)) (outgoing-saturates Nq φ small) (lists .contributions) (G .column) S C e (received-byte (suc t) (holds .checkMessages) e)
-        ∙ ap (λ s. byte (outgoing Nq φ s)) (ap₂ (λ s m. s -ℤ contribution 1 m) sum level ∙ sym (outgoing-is-rest G (levelIn y) σC e u))
+    sent-at : (t : ℕ) {q C S b : List ℕ} → parts ≡ partsIn Nq Λ (suc t) → Messages Nq φ (suc t) messages → Holds G (state G R (suc t)) q C S b → (e : ℕ) → e < G .entries
+        → sentBy parts messages (G .column) S C e ≡ byte (R .variable (suc t) (levelAt (state G R (suc t) .checkMessages)) e)
+    sent-at t {q} {C} {S} {b} p lists holds e u =
+        sent-by (outgoing Nq φ) (λ b. contribution 1 (counted Nq Λ (suc t) (levelOf b))) (lists .outgoings (omega arith)) (outgoing-saturates Nq φ small) p (G .column) S C e (received-byte (suc t) (holds .checkMessages) e)
+        ∙ ap₂ (λ s m. byte (outgoing Nq φ (s -ℤ contribution 1 (counted Nq Λ (suc t) m)))) sum level
+        ∙ ap byte (sym (sent-is-rest G Nq φ Λ (levelIn y) σC (suc t) e u))
       where
         σC : ℕ → Level
         σC = levelAt (state G R (suc t) .checkMessages)
 
-        sum : sumAt S (G .column e) ≡ posterior G (levelIn y) σC (G .column e)
-        sum = sum-is (suc t) holds (G .column e) (ok .within e u) ∙ getD-tabulate (posterior G (levelIn y) σC) (G .variables) (G .column e) (pos 0) (ok .within e u)
+        sum : sumAt S (G .column e) ≡ R .sum (suc t) σC (G .column e)
+        sum = sum-is (suc t) holds (G .column e) (ok .within e u) ∙ sum-at G R t (G .column e) (ok .within e u)
 
         level : levelIn C e ≡ σC e
         level = ap (λ l. levelIn l e) (holds .checkMessages) ∙ ap (λ f. f e) (received-levels (suc t))
 
     -- the variable messages after the last step
-    sent-after : (t E : ℕ) {q C S b q₁ : List ℕ} → Lists Nq φ t parts messages → E ≡ G .entries → Holds G (state G R t) q C S b
+    sent-after : (t E : ℕ) {q C S b q₁ : List ℕ} → parts ≡ partsIn Nq Λ t → Messages Nq φ t messages → E ≡ G .entries → Holds G (state G R t) q C S b
         → q₁ ≡ whenSent (sends false t) q (tabulate (sentBy parts messages (G .column) S C) E)
         → q₁ ≡ map byte (sent G R (state G R t))
-    unfolding signPreserving state begun next iterated sent sentIn
-    sent-after zero E lists k holds e = e ∙ holds .variableMessages
-    sent-after (suc t) E {q} {C} {S} {b} lists k holds e =
+    unfolding signPreserving unlifted state begun sent sentIn
+    sent-after zero E p lists k holds e = e ∙ holds .variableMessages
+    sent-after (suc t) E {q} {C} {S} {b} p lists k holds e =
         e ∙ sent-later t q (tabulate (sentBy parts messages (G .column) S C) E) ∙ ap (tabulate (sentBy parts messages (G .column) S C)) k
-        ∙ tabulate-ext (sentBy parts messages (G .column) S C) (λ e. byte (f e)) (G .entries) (sent-at t lists holds) ∙ sym (map-tabulate byte f (G .entries))
+        ∙ tabulate-ext (sentBy parts messages (G .column) S C) (λ e. byte (f e)) (G .entries) (sent-at t p lists holds) ∙ sym (map-tabulate byte f (G .entries))
+        ∙ ap (map byte) (sym (sent-is G R t))
       where
         f : ℕ → Level
-        f = fromVariable G Nq φ (levelIn y) (levelAt (state G R (suc t) .checkMessages))
+        f = R .variable (suc t) (levelAt (state G R (suc t) .checkMessages))
 
-    pub sent-holds : (t E : ℕ) {over done : Bool} {q C S b q₁ : List ℕ} → Lists Nq φ t parts messages → E ≡ G .entries → Holds G (state G R t) q C S b → over ≡ false → done ≡ sends over t
+    pub sent-holds : (t E : ℕ) {over done : Bool} {q C S b q₁ : List ℕ} → parts ≡ partsIn Nq Λ t → Messages Nq φ t messages → E ≡ G .entries → Holds G (state G R t) q C S b → over ≡ false → done ≡ sends over t
         → q₁ ≡ whenSent done q (tabulate (sentBy parts messages (G .column) S C) E)
         → q₁ ≡ map byte (sent G R (state G R t))
-    sent-holds t E lists k holds o d e = sent-after t E lists k holds (rw (d ∙ ap (λ o. sends o t) o) at e)
+    sent-holds t E p lists k holds o d e = sent-after t E p lists k holds (rw (d ∙ ap (λ o. sends o t) o) at e)
 
-    -- the sums of an iteration
-    sum-by : (t : ℕ) {C : List ℕ} → Lists Nq φ t parts messages → C ≡ map byte (state G R (suc t) .checkMessages) → (v : ℕ) → v < G .variables
-        → sumBy G (levelIn y) parts C v ≡ getD (state G R (suc t) .sums) v (pos 0)
-    unfolding signPreserving state next iterated posterior share
-    sum-by t {C} lists e v u =
-        ap (λ f. channelPart G (levelIn y) v +ℤ fold _+ℤ_ (pos 0) (shareIn (G .column) f v) 0 (G .entries)) (parts-are (λ b. contribution 1 (levelOf b)) C (lists .contributions) (received-byte (suc t) e))
-        ∙ ap (λ f. posterior G (levelIn y) f v) (ap levelIn e ∙ received-levels (suc t))
-        ∙ sym (getD-tabulate (posterior G (levelIn y) (levelAt (state G R (suc t) .checkMessages))) (G .variables) v (pos 0) u)
+  -- the sums of an iteration
+  sum-by : (t : ℕ) {parts : List ℤ} {C : List ℕ} → parts ≡ partsIn Nq Λ (suc t) → C ≡ map byte (state G R (suc t) .checkMessages) → (v : ℕ) → v < G .variables
+      → sumBy G (levelIn y) parts C v ≡ getD (state G R (suc t) .sums) v (pos 0)
+  unfolding signPreserving unlifted posterior share
+  sum-by t {parts} {C} p e v u =
+      ap (λ f. channelPart G (levelIn y) v +ℤ fold _+ℤ_ (pos 0) (shareIn (G .column) f v) 0 (G .entries))
+      (parts-are (λ b. contribution 1 (counted Nq Λ (suc t) (levelOf b))) C p (received-byte (suc t) e))
+      ∙ ap (λ f. posterior G (levelIn y) (countedIn Nq Λ (suc t) f) v) (ap levelIn e ∙ received-levels (suc t))
+      ∙ sym (sum-at G R t v u)
 
-    pub next-holds : (t : ℕ) {q C S b : List ℕ} → Lists Nq φ t parts messages → q ≡ map byte (sent G R (state G R t)) → Iterates G (levelIn y) (levelIn q) parts C S b → Holds G (state G R (t + 1)) q C S b
-    unfolding signPreserving state next iterated
-    next-holds t {q} {C} {S} {b} lists e it = subst (λ (k : ℕ). Holds G (state G R k) q C S b) (sym (add-one t)) (record {
-      variableMessages = e;
-      checkMessages = checks;
-      sums = it .sums ∙ table-ext 4 (λ v. ofZ w32 (sumBy G (levelIn y) parts C v)) (λ v. ofZ w32 (getD (state G R (suc t) .sums) v (pos 0))) (G .variables)
-          (λ v u. ap (ofZ w32) (sum-by t lists checks v u));
-      bits = it .bits
-          ∙ tabulate-ext (λ v. one (bitOf (sumBy G (levelIn y) parts C v) (levelIn y v .minus))) (λ v. one (bitOf (getD (state G R (suc t) .sums) v (pos 0)) (levelIn y v .minus))) (G .variables)
-          (λ v u. ap (λ s. one (bitOf s (levelIn y v .minus))) (sum-by t lists checks v u))
-          ∙ sym (map-tabulate one (λ v. bitOf (getD (state G R (suc t) .sums) v (pos 0)) (levelIn y v .minus)) (G .variables));
-    })
-      where
-        taken : levelIn q ≡ levelAt (sent G R (state G R t))
-        taken = ap levelIn e ∙ sent-levels t
+  pub next-holds : (t : ℕ) {parts : List ℤ} {q C S b : List ℕ} → parts ≡ partsIn Nq Λ (t + 1) → q ≡ map byte (sent G R (state G R t)) → Iterates G (levelIn y) (levelIn q) parts C S b → Holds G (state G R (t + 1)) q C S b
+  unfolding signPreserving unlifted state next iterated
+  next-holds t {parts} {q} {C} {S} {b} p e it = subst (λ (k : ℕ). Holds G (state G R k) q C S b) (sym (add-one t)) (record {
+    variableMessages = e;
+    checkMessages = checks;
+    sums = it .sums ∙ table-ext 4 (λ v. ofZ w32 (sumBy G (levelIn y) parts C v)) (λ v. ofZ w32 (getD (state G R (suc t) .sums) v (pos 0))) (G .variables)
+        (λ v u. ap (ofZ w32) (sum v u));
+    bits = it .bits
+        ∙ tabulate-ext (λ v. one (bitOf (sumBy G (levelIn y) parts C v) (levelIn y v .minus))) (λ v. one (bitOf (getD (state G R (suc t) .sums) v (pos 0)) (levelIn y v .minus))) (G .variables)
+        (λ v u. ap (λ s. one (bitOf s (levelIn y v .minus))) (sum v u))
+        ∙ sym (map-tabulate one (λ v. bitOf (getD (state G R (suc t) .sums) v (pos 0)) (levelIn y v .minus)) (G .variables));
+  })
+    where
+      taken : levelIn q ≡ levelAt (sent G R (state G R t))
+      taken = ap levelIn e ∙ sent-levels t
 
-        checks : C ≡ map byte (state G R (suc t) .checkMessages)
-        checks = it .checkMessages ∙ ap (λ f. tabulate (λ e. byte (fromCheck G f e)) (G .entries)) taken ∙ sym (map-tabulate byte (fromCheck G (levelAt (sent G R (state G R t)))) (G .entries))
+      checks : C ≡ map byte (state G R (suc t) .checkMessages)
+      checks = it .checkMessages ∙ ap (λ f. tabulate (λ e. byte (fromCheck G f e)) (G .entries)) taken ∙ sym (map-tabulate byte (fromCheck G (levelAt (sent G R (state G R t)))) (G .entries))
+
+      sum : (v : ℕ) → v < G .variables → sumBy G (levelIn y) parts C v ≡ getD (state G R (suc t) .sums) v (pos 0)
+      sum = sum-by t (p ∙ ap (partsIn Nq Λ) (add-one t)) checks
 
 -- ---- the stop
 
@@ -282,31 +296,28 @@ module _ {G : Graph} {R : Scheme} {limit : ℕ} {q₀ C₀ S₀ b₀ q C S b : L
         onward = onward-more G R (going .onward) (sym word-in ∙ or-none w (leb limit t) o .0);
       }
 
--- ---- the lists of a run, and what the passes ask of them
+-- ---- the list of messages
 
-module _ {Nq : ℕ} {φ : Offsets} {parts : List ℤ} where
-  pub lists-parts : {t : ℕ} {messages : List ℕ} → Lists Nq φ t parts messages → Parts parts
-  lists-parts l = parts-of (λ b. contribution 1 (levelOf b)) (l .contributions) contribution-small
-
+module _ {Nq : ℕ} {φ : Offsets} where
   -- before anything is sent
-  pub lists-none : {messages : List ℕ} → parts ≡ tabulate (λ b. contribution 1 (levelOf b)) 256 → length messages ≡ 35 → Lists Nq φ 0 parts messages
-  lists-none e l = record { contributions = e; long = l; outgoings = λ u. absurd (omega arith) }
+  pub messages-none : {messages : List ℕ} → length messages ≡ 35 → Messages Nq φ 0 messages
+  messages-none l = record { long = l; outgoings = λ u. absurd (omega arith) }
 
-  -- before the last step: the messages are made, or they are as after the iteration before, and this is not the first that sends
-  pub lists-made : {t k : ℕ} {messages made : List ℕ} → Lists Nq φ t parts messages → made ≡ tabulate (λ k. byte (outgoing Nq φ (pos k -ℤ pos 17))) 35 → Lists Nq φ k parts made
-  lists-made l e = record { contributions = l .contributions; long = ap length e ∙ length-tabulate (λ k. byte (outgoing Nq φ (pos k -ℤ pos 17))) 35; outgoings = λ _. e }
+  -- before the last step: they are made, or they are as after the iteration before, and this is not the first that sends
+  pub messages-made : {k : ℕ} {made : List ℕ} → made ≡ tabulate (λ k. byte (outgoing Nq φ (pos k -ℤ pos 17))) 35 → Messages Nq φ k made
+  messages-made e = record { long = ap length e ∙ length-tabulate (λ k. byte (outgoing Nq φ (pos k -ℤ pos 17))) 35; outgoings = λ _. e }
 
-  pub lists-kept : (over : Bool) (t : ℕ) {messages kept : List ℕ} → Lists Nq φ (t - 1) parts messages → not over && eqb t 1 ≡ false → kept ≡ messages
-      → Lists Nq φ (cond over 0 t) parts kept
-  lists-kept true t l n e = record { contributions = l .contributions; long = ap length e ∙ l .long; outgoings = λ u. absurd (omega arith) }
-  lists-kept false t l n e = record { contributions = l .contributions; long = ap length e ∙ l .long; outgoings = λ u. e ∙ l .outgoings (omega (arith, eqb-false t 1 n)) }
+  pub messages-kept : (over : Bool) (t : ℕ) {messages kept : List ℕ} → Messages Nq φ (t - 1) messages → not over && eqb t 1 ≡ false → kept ≡ messages
+      → Messages Nq φ (cond over 0 t) kept
+  messages-kept true t l n e = record { long = ap length e ∙ l .long; outgoings = λ u. absurd (omega arith) }
+  messages-kept false t l n e = record { long = ap length e ∙ l .long; outgoings = λ u. e ∙ l .outgoings (omega (arith, eqb-false t 1 n)) }
 
   -- where the run is not over: at the last step, and for the next iteration
-  pub lists-now : {over : Bool} (t : ℕ) {messages : List ℕ} → over ≡ false → Lists Nq φ (cond over 0 t) parts messages → Lists Nq φ t parts messages
-  lists-now t {messages} o l = subst (λ b. Lists Nq φ (cond b 0 t) parts messages) o l
+  pub messages-now : {over : Bool} (t : ℕ) {messages : List ℕ} → over ≡ false → Messages Nq φ (cond over 0 t) messages → Messages Nq φ t messages
+  messages-now t {messages} o l = subst (λ b. Messages Nq φ (cond b 0 t) messages) o l
 
-  pub lists-next : (t : ℕ) {messages : List ℕ} → Lists Nq φ t parts messages → Lists Nq φ (t + 1 - 1) parts messages
-  lists-next t l = let k : t + 1 - 1 ≡ t = omega arith in rw k l
+  pub messages-next : (t : ℕ) {messages : List ℕ} → Messages Nq φ t messages → Messages Nq φ (t + 1 - 1) messages
+  messages-next t l = let k : t + 1 - 1 ≡ t = omega arith in rw k l
 
 -- memory of the right lengths stays so
 pub sized-again : {G : Graph} {y d q C S b q₁ C₁ S₁ b₁ : List ℕ} → Sized G y d q C S b → length q₁ ≡ length q → length C₁ ≡ length C → length S₁ ≡ length S → length b₁ ≡ length b

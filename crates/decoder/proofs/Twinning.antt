@@ -8,7 +8,7 @@ use Rattle.graph.proofs.Meaning.{graph-admitted}
 use Rattle.channel.specs.Scaling.{factorOf}
 use Rattle.channel.specs.Reversal.{reversed}
 use Rattle.channel.proofs.Reversing.{length-reversed, reversed-judged, reversed-levels}
-use Rattle.decoder.specs.Decoding.{graph, levels, offsetsOf}
+use Rattle.decoder.specs.Decoding.{graph, levels, offsetsOf, liftingOf}
 use Rattle.decoder.specs.Symmetry.{reversedBy, Demand3}
 use Rattle.decoder.proofs.Accepting.{Told, frame-told, frame-asked, values-judged}
 
@@ -16,7 +16,7 @@ pub demand3 : Demand3
 demand3 F bytes accepted c = record {
   accepted = frame-asked (reversedBy c F) _ (told .graph)
       (values-judged (reversedBy c F) count (told .settings) (reversed-judged c (F .values) bytes ∙ told .values));
-  symmetric = symmetry (graph F) (graph-admitted (graph F) (told .graph)) (largest (F .asked .message)) (offsetsOf F) c (levels F) (levels (reversedBy c F))
+  symmetric = symmetry (graph F) (graph-admitted (graph F) (told .graph)) (largest (F .asked .message)) (offsetsOf F) (liftingOf F) c (levels F) (levels (reversedBy c F))
       (λ v l. reversed-levels c (F .values) bytes (told .values) (largest (F .asked .channel)) (factorOf (F .asked .scaling)) v (within v l));
 }
   where

@@ -1,4 +1,4 @@
--- Document 01, 'Decode', and document 02, item 9: what is refused, what is answered, and what the lent memory then holds.
+-- Document 01, 'Decode', and document 02, items 1 and 9: what is refused, what is answered, and what the lent memory then holds.
 use mathlib.Core.Path.{_≡_}
 use mathlib.Core.Bool.{Bool, _&&_}
 use mathlib.Core.List.{List, _++_, map}
@@ -9,8 +9,8 @@ use lib.ListN.{length, getD, drop}
 use Rattle.rules.specs.Ranges.{one, tabulate}
 use Rattle.rules.specs.Levels.{Level, byte, largest}
 use Rattle.rules.specs.Graphs.{Graph, limits, programLimits}
-use Rattle.rules.specs.Nodes.{Offsets}
-use Rattle.rules.specs.Sequence.{Scheme, State, signPreserving, final, report}
+use Rattle.rules.specs.Nodes.{Offsets, Lifting, never}
+use Rattle.rules.specs.Sequence.{Scheme, State, unlifted, signPreserving, final, report}
 use Rattle.rules.specs.Refusals.{unless, orElse}
 use Rattle.rules.specs.declared.Judged.{Judged}
 use Rattle.rules.specs.declared.Judged.the-variants as Judgement
@@ -22,7 +22,7 @@ use Rattle.graph.specs.Calls.{Old}
 use Rattle.channel.specs.declared.Parameters.{Parameters}
 use Rattle.channel.specs.declared.Checked.{Checked}
 use Rattle.channel.specs.Scaling.{factorOf}
-use Rattle.channel.specs.Settings.{settings, settingsJudged, checked}
+use Rattle.channel.specs.Settings.{largestLift, settings, judgedWith, settingsJudged, checked}
 use Rattle.channel.specs.Values.{valuesJudged, channelLevel}
 use Rattle.decoder.specs.declared.Room.{Room}
 use Rattle.decoder.specs.declared.Decoded.{Decoded}
@@ -81,12 +81,15 @@ module _ (F : Frame) where
   abbrev pub offsetsOf : Offsets
   offsetsOf = record { phiS = F .asked .«phi_s»; phiA = F .asked .«phi_a»; phi0 = F .asked .«phi_0» }
 
+  abbrev pub liftingOf : Lifting
+  liftingOf = record { from = F .asked .«lift_from»; to = F .asked .«lift_to» }
+
   -- The rules of the run.
   abbrev pub scheme : Scheme
-  scheme = signPreserving graph (largest (F .asked .message)) offsetsOf levels
+  scheme = signPreserving graph (largest (F .asked .message)) offsetsOf liftingOf levels
 
-  -- '13, other than n values (their number); 8, precisions not admitted; 9, an offset above 1 or limit above 255; 10, gain or variance not
-  -- finite and above zero; 11, factor infinite or zero; 12, a value infinite or NaN (first index).'
+  -- '13, other than n values (their number); 8, precisions not admitted; 9, an offset above 1 or limit above 255'; 16, W or L outside its bounds;
+  -- '10, gain or variance not finite and above zero; 11, factor infinite or zero; 12, a value infinite or NaN (first index).'
   abbrev pub askedJudged : Judged
   askedJudged =
       orElse (unless (eqb (length (F .values) / 4) (F .variables)) (Length (length (F .values) / 4)))
@@ -130,3 +133,12 @@ pub record Decodes (F : Frame) (M M′ : Memory) (d d′ : List ℕ) (r : Decode
 abbrev pub AsBefore : Type 0
 AsBefore = (F : Frame) (d : ℕ) (m : Room) → Old (graph F) d
     → decodeFinds F d m ≡ decodeJudged F (graphJudged programLimits (graph F)) m
+
+-- Document 02, item 1: where L is 256 nothing is lifted. The rules of the run are those of before, whatever W; and with the W of the run text, 15,
+-- the settings are judged as they were before there was 16. Answer and memory are functions of these two, of the graph and of the values.
+pub record NothingLifted (F : Frame) : Type 0 where
+  pub rules : scheme F ≡ unlifted (graph F) (largest (F .asked .message)) (offsetsOf F) (levels F)
+  pub settings : F .asked .«lift_to» ≡ largestLift → settingsJudged (F .asked) ≡ judgedWith (F .asked) Judgement.Admitted
+
+abbrev pub UnliftedAsBefore : Type 0
+UnliftedAsBefore = (F : Frame) → F .asked .«lift_from» ≡ never → NothingLifted F

@@ -10,7 +10,7 @@ use lib.ListN.{length, getD}
 use Rattle.rules.specs.Ranges.{fold, one, tabulate}
 use Rattle.rules.specs.Levels.{Level, byte, levelOf, largest}
 use Rattle.rules.specs.Graphs.{Graph, Admitted, variableDegree}
-use Rattle.rules.specs.Nodes.{Offsets, firstMessage, firstBit, fromCheck, contribution, channelPart, bitOf, outgoing}
+use Rattle.rules.specs.Nodes.{Offsets, Lifting, firstMessage, firstBit, fromCheck, counted, contribution, channelPart, bitOf, outgoing}
 use Rattle.rules.specs.Sequence.{Scheme, State, signPreserving, begun, final, report}
 use Rattle.rules.specs.declared.Judged.the-variants as Judgement
 use Rattle.rules.specs.declared.Report.{Report}
@@ -79,13 +79,21 @@ reportAt t k = record { verdict = cond (eqb k 0) Codeword Stopped; iterations = 
 abbrev pub offsetsIn : Settings → Offsets
 offsetsIn s = record { phiS = s .«phi_s»; phiA = s .«phi_a»; phi0 = s .«phi_0» }
 
-abbrev pub rulesUnder : Settings → Graph → (ℕ → Level) → Scheme
-rulesUnder s G y = signPreserving G (largest (s .message)) (offsetsIn s) y
+abbrev pub liftingIn : Settings → Lifting
+liftingIn s = record { from = s .«lift_from»; to = s .«lift_to» }
 
--- The lists that a run makes once, at the last step of iteration t: the contribution of every message byte, and, where t is 1 or more, the
--- messages of the outgoing sums from -17 to 17.
-pub record Lists (Nq : ℕ) (φ : Offsets) (t : ℕ) (parts : List ℤ) (messages : List ℕ) : Type 0 where
-  pub contributions : parts ≡ tabulate (λ b. contribution 1 (levelOf b)) 256
+abbrev pub rulesUnder : Settings → Graph → (ℕ → Level) → Scheme
+rulesUnder s G y = signPreserving G (largest (s .message)) (offsetsIn s) (liftingIn s) y
+
+-- The list of parts of iteration t: the contribution of every message byte, as it counts there.
+abbrev pub partsIn : ℕ → Lifting → ℕ → List ℤ
+partsIn Nq Λ t = tabulate (λ b. contribution 1 (counted Nq Λ t (levelOf b))) 256
+
+abbrev pub partsUnder : Settings → ℕ → List ℤ
+partsUnder s t = partsIn (largest (s .message)) (liftingIn s) t
+
+-- The list of messages at the last step of iteration t: where t is 1 or more, those of the outgoing sums from -17 to 17.
+pub record Messages (Nq : ℕ) (φ : Offsets) (t : ℕ) (messages : List ℕ) : Type 0 where
   pub long : length messages ≡ 35
   pub outgoings : 1 ≤ t → messages ≡ tabulate (λ k. byte (outgoing Nq φ (pos k -ℤ pos 17))) 35
 

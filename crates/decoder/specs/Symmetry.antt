@@ -8,7 +8,7 @@ use Rattle.rules.specs.Symmetry.{Symmetric}
 use Rattle.rules.specs.declared.Judged.the-variants.{Admitted}
 use Rattle.graph.specs.Judging.{graphJudged}
 use Rattle.channel.specs.Reversal.{Bytes, reversed}
-use Rattle.decoder.specs.Decoding.{Frame, graph, levels, offsetsOf, frameJudged}
+use Rattle.decoder.specs.Decoding.{Frame, graph, levels, offsetsOf, liftingOf, frameJudged}
 
 -- The frame with the sign bit of its values reversed exactly where c is 1.
 abbrev pub reversedBy : (ℕ → Bool) → Frame → Frame
@@ -28,7 +28,7 @@ pub record Twins (F : Frame) (c : ℕ → Bool) : Type 0 where
   -- the reversed frame is accepted too
   pub accepted : Accepted (reversedBy c F)
   -- c is a codeword exactly when every iteration is mirrored; for a codeword the runs agree whatever the limit; no outgoing sum is zero
-  pub symmetric : Symmetric (graph F) (largest (F .asked .message)) (offsetsOf F) c (levels F) (levels (reversedBy c F))
+  pub symmetric : Symmetric (graph F) (largest (F .asked .message)) (offsetsOf F) (liftingOf F) c (levels F) (levels (reversedBy c F))
 
 abbrev pub Demand3 : Type 0
 Demand3 = (F : Frame) → Bytes (F .values) → Accepted F → (c : ℕ → Bool) → Twins F c

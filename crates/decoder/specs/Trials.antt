@@ -1,10 +1,12 @@
--- Document 01, 'Trial values': every ★ case, and the whole example with its variants from their values, gathered under one table test.
+-- Document 01, 'Trial values': every ★ case, the trial of document 02, item 1, and the whole example with its variants from their values,
+-- gathered under one table test.
 use mathlib.Core.Bool.{Bool, true, false}
 use mathlib.Core.List.{List, [], _∷_, _++_, map}
 use Prim.Native.Nat.{ℕ}
 use lib.Ieee.{binary32, ofBits}
 use Rattle.rules.specs.Tables.{AllPass, sameList}
 use Rattle.rules.specs.Sequence.{final, report}
+use Rattle.rules.specs.Nodes.{never}
 use Rattle.rules.specs.Trials as Nodes
 use Rattle.rules.specs.Trials.{verdictNumber, bitNumbers}
 use Rattle.rules.specs.declared.Report.{Report}
@@ -13,6 +15,7 @@ use Rattle.rules.specs.declared.Verdict.the-variants.{Codeword, Stopped}
 use Rattle.words.specs.Words.{bytes}
 use Rattle.words.specs.Roles.{wide}
 use Rattle.channel.specs.declared.Scaling.the-variants.{Plain}
+use Rattle.channel.specs.Settings.{largestLift}
 use Rattle.channel.specs.Trials as Levels
 use Rattle.decoder.specs.Decoding.{Frame, graph, scheme}
 use Rattle.decoder.specs.Frames.{frame}
@@ -34,7 +37,17 @@ inBytes w (x ∷ xs) = bytes w x ++ inBytes w xs
 unfoldable pub example : List ℕ → ℕ → Frame
 example values limit =
     frame 3 (inBytes wide (0 ∷ 2 ∷ 4 ∷ [])) (inBytes wide (0 ∷ 1 ∷ 1 ∷ 2 ∷ [])) (inBytes 4 values)
-    (record { scaling = Plain (ofBits binary32 0x3f80_0000); channel = 3; message = 3; «phi_s» = 1; «phi_a» = 1; «phi_0» = 0; limit = limit })
+    (record {
+      scaling = Plain (ofBits binary32 0x3f80_0000);
+      channel = 3;
+      message = 3;
+      «phi_s» = 1;
+      «phi_a» = 1;
+      «phi_0» = 0;
+      limit = limit;
+      «lift_from» = never;
+      «lift_to» = largestLift;
+    })
 
 unfoldable pub trials : List Trial
 trials =

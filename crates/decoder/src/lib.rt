@@ -1,7 +1,6 @@
 // Decodes one frame.
 ghost use mathlib.Core.Path.{_≡_};
 ghost use Prim.Native.Nat.{_≤_};
-ghost use Rattle.rules.specs.Levels.{largest};
 ghost use Rattle.rules.specs.Graphs.{limits};
 ghost use Rattle.decoder.specs.Frames.{frame, memory};
 ghost use Rattle.words.specs.Roles.{graphOf};
@@ -58,7 +57,8 @@ fn ended(t: usize, odd: usize) -> Report
     }
 }
 
-// The iterations from 0 to the stop. The list of messages is made where it is first read: in iteration 1, if the run goes on.
+// The iterations from 0 to the stop. The list of messages is made where it is first read: in iteration 1, if the run goes on. The list of
+// parts is that of the iteration.
 fn run(
     s: Settings,
     n: usize,
@@ -74,7 +74,7 @@ fn run(
     requires { ⌜ Begun s (graphOf n (now starts) (now columns)) (now levels) (now degrees) (now «variable_messages») (now «check_messages») (now sums) (now bits) ⌝ }
     ensures { λ r. ⌜ RunsUnder s (graphOf n (now (starts .entry)) (now (columns .entry))) (levelIn (now (levels .entry))) r (now («variable_messages» .exit)) (now («check_messages» .exit)) (now (sums .exit)) (now (bits .exit)) ⌝ }
 {
-    let parts = nodes::sums::contributions();
+    let mut parts = nodes::sums::contributions();
     let mut messages = [0u8; 35];
     let mut t: usize = 0;
     loop {
@@ -95,6 +95,7 @@ fn run(
         if over {
             return ended(t, syndrome::odd_checks(n, starts, columns, bits));
         }
+        step::lift(t, s, &mut parts);
         step::iterate(
             n,
             starts,
@@ -155,20 +156,6 @@ pub fn accept(
     c
 }
 
-// The largest magnitude of a precision in bits.
-fn largest(bits: u8) -> u8
-    requires { ⌜ (2 ≤ bits) × (bits ≤ 4) ⌝ }
-    ensures { λ r. ⌜ r ≡ largest bits ⌝ }
-{
-    if bits == 2 {
-        return 1;
-    }
-    if bits == 3 {
-        return 3;
-    }
-    7
-}
-
 // Decodes an accepted frame, in memory of exactly the right lengths.
 fn decode_exactly(
     s: Settings,
@@ -188,8 +175,8 @@ fn decode_exactly(
     requires { ⌜ exact (graphOf n (now starts) (now columns)) (roomOf (memory (now levels) (now «variable_messages») (now «check_messages») (now sums) (now bits))) ⌝ }
     ensures { λ r. ⌜ RunsFrom s (graphOf n (now (starts .entry)) (now (columns .entry))) (now (values .entry)) r (now (levels .exit)) (now («variable_messages» .exit)) (now («check_messages» .exit)) (now (sums .exit)) (now (bits .exit)) ⌝ }
 {
-    let channel_most = largest(s.channel);
-    let message_most = largest(s.message);
+    let channel_most = channel::largest(s.channel);
+    let message_most = channel::largest(s.message);
     step::begin(
         values,
         s.factor,

@@ -1,15 +1,17 @@
 // The steps of a run, on memory of exactly the right lengths.
 ghost use mathlib.Core.Path.{_≡_};
-ghost use Prim.Native.Nat.{ℕ, _/_, _<_, _^_};
+ghost use Prim.Native.Nat.{ℕ, _+_, _/_, _<_, _^_};
 ghost use lib.IntN.{natAbs};
 ghost use lib.ListN.{length};
 ghost use Rattle.rules.specs.Ranges.{tabulate};
 ghost use Rattle.rules.specs.declared.Judged.the-variants.{Admitted};
 ghost use Rattle.words.specs.Roles.{wide, columnAt, sumAt, graphOf};
 ghost use Rattle.channel.specs.Values.{valuesJudged};
+ghost use Rattle.channel.specs.Theorems.{Admissible};
 ghost use Rattle.nodes.specs.Memory.{levelIn};
 ghost use Rattle.nodes.specs.Lists.{Parts, sentBy};
-ghost use Rattle.decoder.specs.Steps.{Sized, Begins, whenSent, Iterates};
+ghost use Rattle.decoder.specs.Steps.{Sized, Begins, whenSent, partsUnder, Iterates};
+use channel::Settings;
 
 // Iteration 0: levels, first messages and bits; check messages and sums all 0.
 pub fn begin(
@@ -60,6 +62,16 @@ pub fn send(
             messages,
             variable_messages,
         );
+    }
+}
+
+// Makes the list of parts of iteration t that of the next: where that is L, a message of magnitude Nq counts as magnitude W from there on.
+pub fn lift(t: usize, s: Settings, parts: &mut [i32])
+    requires { ⌜ Admissible s × (t < 255) × (now parts ≡ partsUnder s t) ⌝ }
+    ensures { λ _. ⌜ now (parts .exit) ≡ partsUnder s (t + 1) ⌝ }
+{
+    if t + 1 == s.lift_from as usize {
+        nodes::sums::lift(parts, channel::largest(s.message), s.lift_to);
     }
 }
 

@@ -10,6 +10,7 @@ use lib.Ieee.{binary32, lt, ofInt, ofBits}
 use lib.Ieee.Scale.{finite}
 use lib.ListN.{length}
 use Rattle.rules.specs.Graphs.{limits}
+use Rattle.rules.specs.Nodes.{never}
 use Rattle.rules.specs.Refusals.{paper, unless, orElse}
 use Rattle.rules.specs.declared.Refusal.{Refusal}
 use Rattle.rules.specs.declared.Refusal.the-variants as R
@@ -25,7 +26,7 @@ use Rattle.channel.specs.declared.Settings.{Settings}
 use Rattle.channel.specs.declared.Checked.{Checked}
 use Rattle.channel.specs.declared.Checked.the-variants as Checks
 use Rattle.channel.specs.Scaling.{factorOf, positive, scalingAdmitted, infiniteOrZero}
-use Rattle.channel.specs.Settings.{precisionsAdmitted, optionsAdmitted, settings, settingsJudged}
+use Rattle.channel.specs.Settings.{largestLift, precisionsAdmitted, optionsAdmitted, liftingAdmitted, settings, settingsJudged}
 use Rattle.channel.specs.Values.{valuesJudged}
 use Rattle.decoder.specs.declared.Room.{Room}
 use Rattle.decoder.specs.Decoding.{Frame, graph, enough, frameJudged, decodeJudged, decodeFinds, decoded, Accepts}
@@ -47,17 +48,18 @@ same {r} {s} e = cc
 
 settings-placeless : (p : Parameters) (r : Refusal) → settingsJudged p ≡ Refused r → Placeless r
 settings-placeless p r e =
-    go (precisionsAdmitted (p .channel) (p .message)) (optionsAdmitted p) (scalingAdmitted (p .scaling)) (not (infiniteOrZero (factorOf (p .scaling)))) e
+    go (precisionsAdmitted (p .channel) (p .message)) (optionsAdmitted p) (liftingAdmitted p) (scalingAdmitted (p .scaling)) (not (infiniteOrZero (factorOf (p .scaling)))) e
   where
     is : (s : Refusal) → Placeless s → Refused s ≡ Refused r → Placeless r
     is s h d = subst Placeless (same d) h
 
-    go : (a b c d : Bool) → orElse (unless a R.Precision) (orElse (unless b R.Option) (orElse (unless c R.Scaling) (unless d R.Factor))) ≡ Refused r → Placeless r
-    go false b c d h = is R.Precision (record { twelve = refl; place = refl }) h
-    go true false c d h = is R.Option (record { twelve = refl; place = refl }) h
-    go true true false d h = is R.Scaling (record { twelve = refl; place = refl }) h
-    go true true true false h = is R.Factor (record { twelve = refl; place = refl }) h
-    go true true true true h = absurd (refused-not (sym h))
+    go : (a b l c d : Bool) → orElse (unless a R.Precision) (orElse (unless b R.Option) (orElse (unless l R.Lifting) (orElse (unless c R.Scaling) (unless d R.Factor)))) ≡ Refused r → Placeless r
+    go false b l c d h = is R.Precision (record { twelve = refl; place = refl }) h
+    go true false l c d h = is R.Option (record { twelve = refl; place = refl }) h
+    go true true false c d h = is R.Lifting (record { twelve = refl; place = refl }) h
+    go true true true false d h = is R.Scaling (record { twelve = refl; place = refl }) h
+    go true true true true false h = is R.Factor (record { twelve = refl; place = refl }) h
+    go true true true true true h = absurd (refused-not (sym h))
 
 values-twelve : (values : List ℕ) (r : Refusal) → valuesJudged values ≡ Refused r → paper r .number ≡ 12
 values-twelve values r e =
@@ -103,6 +105,7 @@ number-small (R.Value p) = refl
 number-small (R.Length p) = refl
 number-small (R.RunText p) = refl
 number-small (R.Bit p) = refl
+number-small R.Lifting = refl
 
 -- the lowest byte of the answer is the number
 number-packed : (F : Frame) (j : Judged) → packDecoded (decoded F j) % 256 ≡ numberOf j
@@ -119,7 +122,7 @@ places-told F d m =
 -- ---- accepted with settings that are in order, and enough memory
 
 -- settings that are in order
-pub settled : settingsJudged (askedOf (Plain (ofBits binary32 0x3f80_0000)) 3 3 0 0 0 0) ≡ Admitted
+pub settled : settingsJudged (askedOf (Plain (ofBits binary32 0x3f80_0000)) 3 3 0 0 0 0 never largestLift) ≡ Admitted
 unfolding positive lt ofInt ofBits
 settled = refl
 

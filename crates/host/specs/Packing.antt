@@ -35,8 +35,8 @@ abbrev pub scalingOf : ℕ → Float → Float → Scaling
 scalingOf kind gain variance = cond (eqb kind 0) (Plain gain) (cond (eqb kind 1) (Noise gain variance) (Plain (ofBits binary32 0)))
 
 -- What is asked of the run, from the numbers of a call.
-abbrev pub askedOf : Scaling → ℕ → ℕ → ℕ → ℕ → ℕ → ℕ → Parameters
-askedOf scaling channel message phiS phiA phi0 limit = record {
+abbrev pub askedOf : Scaling → ℕ → ℕ → ℕ → ℕ → ℕ → ℕ → ℕ → ℕ → Parameters
+askedOf scaling channel message phiS phiA phi0 limit liftFrom liftTo = record {
   scaling = scaling;
   channel = channel;
   message = message;
@@ -44,6 +44,8 @@ askedOf scaling channel message phiS phiA phi0 limit = record {
   «phi_a» = phiA;
   «phi_0» = phi0;
   limit = limit;
+  «lift_from» = liftFrom;
+  «lift_to» = liftTo;
 }
 
 -- The lowest byte is the refusal's number, 0 where nothing is refused; its place comes from a call of its own.

@@ -84,6 +84,8 @@ pub extern "C" fn frame_decode(
     phi_a: u32,
     phi_0: u32,
     limit: u32,
+    lift_from: u32,
+    lift_to: u32,
     degrees: &mut [u8],
     levels: &mut [u8],
     variable_messages: &mut [u8],
@@ -91,7 +93,7 @@ pub extern "C" fn frame_decode(
     sums: &mut [u8],
     bits: &mut [u8],
 ) -> u64
-    ensures { λ r. ⌜ HostDecodes (frame n (now (starts .entry)) (now (columns .entry)) (now (values .entry)) (askedOf (scalingOf kind gain variance) channel message «phi_s» «phi_a» «phi_0» limit)) (memory (now (levels .entry)) (now («variable_messages» .entry)) (now («check_messages» .entry)) (now (sums .entry)) (now (bits .entry))) (memory (now (levels .exit)) (now («variable_messages» .exit)) (now («check_messages» .exit)) (now (sums .exit)) (now (bits .exit))) (now (degrees .entry)) (now (degrees .exit)) r ⌝ }
+    ensures { λ r. ⌜ HostDecodes (frame n (now (starts .entry)) (now (columns .entry)) (now (values .entry)) (askedOf (scalingOf kind gain variance) channel message «phi_s» «phi_a» «phi_0» limit «lift_from» «lift_to»)) (memory (now (levels .entry)) (now («variable_messages» .entry)) (now («check_messages» .entry)) (now (sums .entry)) (now (bits .entry))) (memory (now (levels .exit)) (now («variable_messages» .exit)) (now («check_messages» .exit)) (now (sums .exit)) (now (bits .exit))) (now (degrees .entry)) (now (degrees .exit)) r ⌝ }
 {
     let scaling = scaling_of(kind, gain, variance);
     let asked = Parameters {
@@ -102,6 +104,8 @@ pub extern "C" fn frame_decode(
         phi_a,
         phi_0,
         limit,
+        lift_from,
+        lift_to,
     };
     let d = decoder::decode(
         n,
@@ -140,6 +144,8 @@ pub extern "C" fn frame_decode_place(
         phi_a: 0,
         phi_0: 0,
         limit: 0,
+        lift_from: channel::NEVER,
+        lift_to: channel::LARGEST_LIFT,
     };
     let room = Room {
         levels: rules::MOST_VARIABLES,

@@ -14,21 +14,14 @@ use lib.ListN.{length, getD, take, drop, take-append-drop, List·getD-eq-default
 use mir.Syntax.{w32}
 use mir.Val.{ofZ}
 use Rattle.rules.specs.Ranges.{fold, tabulate}
-use Rattle.rules.specs.Levels.{levelOf}
-use Rattle.rules.specs.Nodes.{contribution}
 use Rattle.rules.proofs.Ranges.{fold-none, fold-next, getD-tabulate, length-tabulate}
-use Rattle.rules.proofs.Bounds.{abs-sum, abs-contribution}
+use Rattle.rules.proofs.Bounds.{abs-sum}
 use Rattle.words.specs.Words.{stored}
 use Rattle.words.specs.Roles.{columnAt, sumAt, sumTable}
 use Rattle.words.proofs.Words.{length-stored, table-ext}
 use Rattle.words.proofs.Signed.{sum-self, sum-at-table, sum-put-table}
 use Rattle.nodes.specs.Lists.{Parts, partIn, shareIn}
-use Rattle.nodes.proofs.Leaves.{magnitude-small}
 use Rattle.nodes.proofs.Signed.{fits-abs}
-
--- a level byte's contribution, with e at most 1, is at most 255
-pub contribution-small : (b : ℕ) → natAbs (contribution 1 (levelOf b)) ≤ 255
-contribution-small b = omega (arith, abs-contribution 1 (levelOf b), magnitude-small b)
 
 -- one part of a list for all bytes
 pub part-at : (part : ℕ → ℤ) {parts : List ℤ} {b : ℕ} → parts ≡ tabulate part 256 → b < 256 → getD parts b (pos 0) ≡ part b

@@ -43,7 +43,7 @@ pub fn channel_parts(levels: &[u8], degrees: &[u8], sums: &mut [u8])
     }
 }
 
-// The contribution of every message, by its byte: that of a minus level is the opposite of the plus level's, 128 before.
+// The contribution of every message that counts as it is, by its byte: that of a minus level is the opposite of the plus level's, 128 before.
 pub fn contributions() -> [i32; 256]
     ensures { λ r. ⌜ r ≡ tabulate (λ b. Nodes.contribution 1 (levelOf b)) 256 ⌝ }
 {
@@ -56,6 +56,17 @@ pub fn contributions() -> [i32; 256]
         m += 1;
     }
     parts
+}
+
+// Lifts a list of contributions: a message of magnitude `most` counts as magnitude `to`.
+pub fn lift(parts: &mut [i32], most: u8, to: u8)
+    requires { ⌜ (most < 128) × (to < 128) × (now parts ≡ tabulate (λ b. Nodes.contribution 1 (levelOf b)) 256) ⌝ }
+    ensures { λ _. ⌜ now (parts .exit) ≡ tabulate (λ b. Nodes.contribution 1 (Nodes.lifted most to (levelOf b))) 256 ⌝ }
+{
+    let m = most as usize;
+    let x = (2 * (to as usize) + 1) as i32;
+    parts[m] = x;
+    parts[m + 128] = -x;
 }
 
 // Adds to the sum of each entry's variable the part of the entry's message, by a list of parts for all bytes.

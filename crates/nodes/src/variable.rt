@@ -108,8 +108,26 @@ fn place(u: i32) -> usize
     }
 }
 
-// The variable nodes, at all entries: the message of the variable's sum less the part of the message that came in, by a list of parts
-// for all bytes and a list of messages for the sums from -17 to 17.
+// What is sent at entry e: the message of the variable's sum less the part of the message that came in, by a list of parts for all bytes and a
+// list of messages for the sums from -17 to 17.
+fn sent(
+    columns: &[u8],
+    incoming: &[u8],
+    sums: &[u8],
+    parts: &[i32],
+    messages: &[u8],
+    e: usize,
+) -> u8
+    requires { ⌜ (length (now incoming) ≡ length (now columns) / wide) × (e < length (now incoming)) × Parts (now parts) × (length (now messages) ≡ 35) ⌝ }
+    requires { ⌜ columnAt (now columns) e < length (now sums) / 4 ⌝ }
+    requires { ⌜ ((v : ℕ) → v < length (now sums) / 4 → natAbs (sumAt (now sums) v) < 2 ^ 30) ⌝ }
+    ensures { λ r. ⌜ r ≡ sentBy (now (parts .entry)) (now (messages .entry)) (columnAt (now (columns .entry))) (now (sums .entry)) (now (incoming .entry)) e ⌝ }
+{
+    let v = words::column(columns, e);
+    messages[place(words::sum(sums, v) - parts[incoming[e] as usize])]
+}
+
+// The variable nodes, at all entries, two in a turn.
 pub fn variable_nodes(
     columns: &[u8],
     incoming: &[u8],
@@ -123,10 +141,14 @@ pub fn variable_nodes(
     requires { ⌜ ((v : ℕ) → v < length (now sums) / 4 → natAbs (sumAt (now sums) v) < 2 ^ 30) ⌝ }
     ensures { λ _. ⌜ now (outgoing .exit) ≡ tabulate (sentBy (now (parts .entry)) (now (messages .entry)) (columnAt (now (columns .entry))) (now (sums .entry)) (now (incoming .entry))) (length (now (incoming .entry))) ⌝ }
 {
+    let n = incoming.len();
     let mut e = 0;
-    while e < incoming.len() {
-        let v = words::column(columns, e);
-        outgoing[e] = messages[place(words::sum(sums, v) - parts[incoming[e] as usize])];
-        e += 1;
+    while e + 1 < n {
+        outgoing[e] = sent(columns, incoming, sums, parts, messages, e);
+        outgoing[e + 1] = sent(columns, incoming, sums, parts, messages, e + 1);
+        e += 2;
+    }
+    if e < n {
+        outgoing[e] = sent(columns, incoming, sums, parts, messages, e);
     }
 }

@@ -12,11 +12,13 @@ use lib.IntN.{ℤ, pos, negsuc, subℕ, natAbs, _+ℤ_}
 use Rattle.rules.specs.Ranges.{fold, but, one, count, tabulate}
 use Rattle.rules.specs.Levels.{Level, plusZero}
 use Rattle.rules.specs.Graphs.{Graph, Admitted, checkDegree, variableDegree, checkOf}
-use Rattle.rules.specs.Nodes.{Offsets, firstMessage, others, fromCheck, signed, contribution, extra, channelPart, share, posterior, outgoingMagnitude, outgoing, outgoingSum, fromVariable}
-use Rattle.rules.specs.Sequence.{Scheme, signPreserving, levelAt, begun, sentIn, sent, iterated, next, state}
-use Rattle.rules.specs.Theorems.{MessagesWithin, largestSum, SumsBounded, BoundReached}
+use Rattle.rules.specs.Nodes.{Offsets, Lifting, firstMessage, others, fromCheck, signed, contribution, extra, channelPart, share, posterior, outgoingMagnitude, outgoing, outgoingSum, fromVariable}
+use Rattle.rules.specs.Sequence.{Scheme, unlifted, countedIn, signPreserving, levelAt, begun, sentIn, sent, iterated, next, state}
+use Rattle.rules.specs.Theorems.{MessagesWithin, largestSum, heaviest, SumsBounded, BoundReached}
 use Rattle.rules.proofs.Ranges.{least-below, but-other, fold-ext, fold-map, getD-tabulate}
 use Rattle.rules.proofs.Rows.{rowed, row-within, row-entries}
+use Rattle.rules.proofs.Simulation.{sum-at, sent-is}
+use Rattle.rules.proofs.Lifts.{counted-within, counted-largest}
 
 -- ---- messages
 
@@ -57,27 +59,28 @@ magnitude-within Nq φ F = go (ltb Nq F) refl (eqb F Nq) (leb 2 F) (eqb F 1) ref
     go false p false false true q = omega (arith, ltb-false Nq F p, eqb-true F 1 q)
     go false p false false false q = omega arith
 
-module _ (G : Graph) (ok : Admitted G) (Nq : ℕ) (φ : Offsets) (y : ℕ → Level) where
+module _ (G : Graph) (ok : Admitted G) (Nq : ℕ) (φ : Offsets) (Λ : Lifting) (y : ℕ → Level) where
   R : Scheme
-  R = signPreserving G Nq φ y
+  R = signPreserving G Nq φ Λ y
 
   tabled : (f : ℕ → Level) → ((e : ℕ) → e < G .entries → f e .magnitude ≤ Nq) → (e : ℕ) → e < G .entries → levelAt (tabulate f (G .entries)) e .magnitude ≤ Nq
   tabled f h e u = rw (getD-tabulate f (G .entries) e plusZero u) (h e u)
 
   sent-within : (t e : ℕ) → e < G .entries → levelAt (sent G R (state G R t)) e .magnitude ≤ Nq
-  unfolding R signPreserving state begun next iterated sent sentIn firstMessage fromVariable outgoing
+  unfolding R signPreserving unlifted state begun sent sentIn firstMessage fromVariable outgoing
   sent-within zero e u = tabled (firstMessage G Nq y) (λ k m. omega arith) e u
-  sent-within (suc t) e u = tabled (fromVariable G Nq φ y (levelAt (state G R (suc t) .checkMessages)))
-      (λ k m. magnitude-within Nq φ ((natAbs (outgoingSum G y (levelAt (state G R (suc t) .checkMessages)) k) - 1) / 2)) e u
+  sent-within (suc t) e u =
+      let C : ℕ → Level = countedIn Nq Λ (suc t) (levelAt (state G R (suc t) .checkMessages)) in
+      rw (sent-is G R t) (tabled (fromVariable G Nq φ y C) (λ k m. magnitude-within Nq φ ((natAbs (outgoingSum G y C k) - 1) / 2)) e u)
 
   received-within : (t e : ℕ) → e < G .entries → levelAt (state G R t .checkMessages) e .magnitude ≤ Nq
-  unfolding R signPreserving state begun next iterated
+  unfolding R signPreserving unlifted state begun next iterated
   received-within zero e u = tabled (λ e. plusZero) (λ k m. omega arith) e u
   received-within (suc t) e u = tabled (fromCheck G (levelAt (sent G R (state G R t)))) (check-within G ok Nq (levelAt (sent G R (state G R t))) (sent-within t)) e u
 
 pub messages-within : MessagesWithin
 unfolding R
-messages-within G ok Nq φ y t e u = (sent-within G ok Nq φ y t e u, received-within G ok Nq φ y t e u)
+messages-within G ok Nq φ Λ y t e u = (sent-within G ok Nq φ Λ y t e u, received-within G ok Nq φ Λ y t e u)
 
 -- ---- sums
 
@@ -129,26 +132,33 @@ module _ (G : Graph) (C : ℕ → Level) (Nq : ℕ) (h : (k : ℕ) → k < G .en
   )
 
 pub sums-bounded : SumsBounded
-unfolding R signPreserving state begun next iterated
-sums-bounded G ok Nch Nq φ y g zero v u = rw (getD-tabulate (λ v. pos 0) (G .variables) v (pos 0) u) (omega arith)
-sums-bounded G ok Nch Nq φ y g (suc t) v u =
-    let C : ℕ → Level = levelAt (state G (signPreserving G Nq φ y) (suc t) .checkMessages) in
-    rw (getD-tabulate (posterior G y C) (G .variables) v (pos 0) u) (posterior-bound G C Nq (received-within G ok Nq φ y (suc t)) v Nch y (g v u))
+unfolding R signPreserving unlifted state begun
+sums-bounded G ok Nch Nq φ Λ w y g zero v u = rw (getD-tabulate (λ v. pos 0) (G .variables) v (pos 0) u) (omega arith)
+sums-bounded G ok Nch Nq φ Λ w y g (suc t) v u =
+    let C : ℕ → Level = levelAt (state G (signPreserving G Nq φ Λ y) (suc t) .checkMessages) in
+    rw (sum-at G (signPreserving G Nq φ Λ y) t v u)
+    (posterior-bound G (countedIn Nq Λ (suc t) C) (heaviest Nq Λ (suc t)) (λ k l. counted-within Nq Λ (suc t) w (C k) (received-within G ok Nq φ Λ y (suc t) k l)) v Nch y (g v u))
 
-pub bound-reached : BoundReached
+-- the sum of the largest level and d messages of magnitude N, all plus
+full-sum : (G : Graph) (Nch N v : ℕ)
+    → posterior G (λ v. record { minus = false; magnitude = Nch }) (λ e. record { minus = false; magnitude = N }) v ≡ pos (largestSum Nch N (variableDegree G v))
 unfolding posterior channelPart variableDegree count contribution share
-bound-reached G Nch Nq v = ap (λ s. pos (2 * Nch + extra (variableDegree G v)) +ℤ s) shares
+full-sum G Nch N v = ap (λ s. pos (2 * Nch + extra (variableDegree G v)) +ℤ s) shares
   where
     own : ℕ → ℕ
     own k = one (eqb (G .column k) v)
 
     part : ℕ → ℤ
-    part n = pos (n * (2 * Nq + 1))
+    part n = pos (n * (2 * N + 1))
 
-    full : (b : Bool) → cond b (pos (2 * Nq + 1)) (pos 0) ≡ part (one b)
+    full : (b : Bool) → cond b (pos (2 * N + 1)) (pos 0) ≡ part (one b)
     full true = ap pos (omega arith)
     full false = ap pos (omega arith)
 
-    shares : fold _+ℤ_ (pos 0) (share G (λ e. record { minus = false; magnitude = Nq }) v) 0 (G .entries) ≡ part (fold _+_ 0 own 0 (G .entries))
-    shares = fold-ext _+ℤ_ (pos 0) (share G (λ e. record { minus = false; magnitude = Nq }) v) (λ k. part (own k)) 0 (G .entries) (λ k l u. full (eqb (G .column k) v))
-        ∙ sym (fold-map _+_ 0 _+ℤ_ (pos 0) part (ap pos (omega arith)) (λ a b. ap pos (add-mul a b (2 * Nq + 1))) own 0 (G .entries))
+    shares : fold _+ℤ_ (pos 0) (share G (λ e. record { minus = false; magnitude = N }) v) 0 (G .entries) ≡ part (fold _+_ 0 own 0 (G .entries))
+    shares = fold-ext _+ℤ_ (pos 0) (share G (λ e. record { minus = false; magnitude = N }) v) (λ k. part (own k)) 0 (G .entries) (λ k l u. full (eqb (G .column k) v))
+        ∙ sym (fold-map _+_ 0 _+ℤ_ (pos 0) part (ap pos (omega arith)) (λ a b. ap pos (add-mul a b (2 * N + 1))) own 0 (G .entries))
+
+pub bound-reached : BoundReached
+bound-reached G Nch Nq Λ t v =
+    ap (λ (l : Level). posterior G (λ v. record { minus = false; magnitude = Nch }) (λ e. l) v) (counted-largest Nq Λ t) ∙ full-sum G Nch (heaviest Nq Λ t) v

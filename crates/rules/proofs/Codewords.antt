@@ -9,35 +9,40 @@ use lib.ListN.{getD}
 use lib.IntN.{ℤ, pos}
 use Rattle.rules.specs.Levels.{Level, plusZero}
 use Rattle.rules.specs.Graphs.{Graph, Admitted, Codeword}
-use Rattle.rules.specs.Nodes.{Offsets, firstMessage, firstBit, fromCheck, bitOf, outgoingSum, outgoing, fromVariable}
-use Rattle.rules.specs.Sequence.{Scheme, signPreserving, levelAt, bitAt, begun, sent, iterated, next, state, unsatisfiedIn, stop, final, report}
+use Rattle.rules.specs.Nodes.{Offsets, Lifting, firstMessage, firstBit, fromCheck, counted, bitOf, outgoingSum, outgoing, fromVariable}
+use Rattle.rules.specs.Sequence.{Scheme, unlifted, countedIn, signPreserving, levelAt, bitAt, begun, sent, iterated, next, state, unsatisfiedIn, stop, final, report}
 use Rattle.rules.specs.declared.Report.{Report}
 use Rattle.rules.specs.declared.Verdict.the-variants.{Codeword as codeword, Stopped as stopped}
 use Rattle.rules.specs.Symmetry.{turned, opposite, Reversed, Mirrored, SameRun, Symmetry}
 use Rattle.rules.proofs.Ranges.{getD-tabulate, first-ext}
 use Rattle.rules.proofs.Signs.{bit-turned, outgoing-turned}
 use Rattle.rules.proofs.Parity.{outgoing-nonzero}
-use Rattle.rules.proofs.Turns.{check-mirrored, only-codewords, posterior-turned, outgoingSum-turned, unsatisfied-turned}
+use Rattle.rules.proofs.Turns.{Reverses, check-mirrored, only-codewords, posterior-turned, outgoingSum-turned, unsatisfied-turned}
+use Rattle.rules.proofs.Lifts.{counted-turned}
 use Rattle.rules.proofs.Simulation.{state-number, Simulates, Mirrors, states-mirror}
 
-module _ (G : Graph) (ok : Admitted G) (Nq : ℕ) (φ : Offsets) (c : ℕ → Bool) (y y′ : ℕ → Level) (hy : Reversed G c y y′) where
+module _ (G : Graph) (ok : Admitted G) (Nq : ℕ) (φ : Offsets) (Λ : Lifting) (c : ℕ → Bool) (y y′ : ℕ → Level) (hy : Reversed G c y y′) where
   R : Scheme
-  R = signPreserving G Nq φ y
+  R = signPreserving G Nq φ Λ y
 
   R′ : Scheme
-  R′ = signPreserving G Nq φ y′
+  R′ = signPreserving G Nq φ Λ y′
+
+  -- messages that are reversed count as reversed ones
+  counted-reversed : (t : ℕ) (C C′ : ℕ → Level) → Reverses G ok c C C′ → Reverses G ok c (countedIn Nq Λ t C) (countedIn Nq Λ t C′)
+  counted-reversed t C C′ h e u = ap (counted Nq Λ t) (h e u) ∙ counted-turned Nq Λ t (c (G .column e)) (C e)
 
   module _ (w : Codeword G c) where
     simulates : Simulates G G R R′ (λ e. e) (λ v. v) (λ e. turned (c (G .column e))) (λ v. opposite (c v))
-    unfolding R R′ signPreserving firstMessage fromVariable turned
+    unfolding R R′ signPreserving unlifted firstMessage fromVariable turned
     simulates = record {
       entries = λ e u. u;
       variables = λ v u. u;
       firstMessage = λ e u. ap (λ (l : Level). record { minus = l .minus; magnitude = min (l .magnitude) Nq }) (hy (G .column e) (ok .within e u));
       check = check-mirrored G ok c w;
-      sum = λ C C′ h v u. posterior-turned G ok c y y′ C C′ hy h v u;
-      variable = λ C C′ h e u. ap (outgoing Nq φ) (outgoingSum-turned G ok c y y′ C C′ hy h e u)
-          ∙ outgoing-turned Nq φ (c (G .column e)) (outgoingSum G y C e) (outgoing-nonzero G y C e u);
+      sum = λ t C C′ h v u. posterior-turned G ok c y y′ (countedIn Nq Λ t C) (countedIn Nq Λ t C′) hy (counted-reversed t C C′ h) v u;
+      variable = λ t C C′ h e u. ap (outgoing Nq φ) (outgoingSum-turned G ok c y y′ (countedIn Nq Λ t C) (countedIn Nq Λ t C′) hy (counted-reversed t C C′ h) e u)
+          ∙ outgoing-turned Nq φ (c (G .column e)) (outgoingSum G y (countedIn Nq Λ t C) e) (outgoing-nonzero G y (countedIn Nq Λ t C) e u);
     }
 
     mirrors : (t : ℕ) → Mirrors G G R R′ (λ e. e) (λ v. v) (λ e. turned (c (G .column e))) (λ v. opposite (c v)) (state G R t) (state G R′ t)
@@ -51,7 +56,7 @@ module _ (G : Graph) (ok : Admitted G) (Nq : ℕ) (φ : Offsets) (c : ℕ → Bo
     }
 
     bits-turned : (t v : ℕ) → v < G .variables → bitAt (state G R′ t .bits) v ≡ xor (c v) (bitAt (state G R t .bits) v)
-    unfolding R R′ signPreserving state begun next iterated firstBit turned
+    unfolding R R′ signPreserving unlifted state begun next iterated firstBit turned
     bits-turned zero v u =
         getD-tabulate (firstBit y′) (G .variables) v false u ∙ ap (λ l. l .minus) (hy v u)
         ∙ ap (xor (c v)) (sym (getD-tabulate (firstBit y) (G .variables) v false u))
@@ -86,7 +91,7 @@ module _ (G : Graph) (ok : Admitted G) (Nq : ℕ) (φ : Offsets) (c : ℕ → Bo
 
   -- the check messages of iteration 1 tell whether c is a codeword
   only : ((t : ℕ) → Mirrored G c R R′ t) → Codeword G c
-  unfolding R R′ signPreserving state begun next iterated
+  unfolding R R′ signPreserving unlifted state begun next iterated
   only m = only-codewords G ok c (levelAt q) (levelAt q′) (m 0 .variableMessages)
       (λ e u. sym (getD-tabulate (fromCheck G (levelAt q′)) (G .entries) e plusZero u)
       ∙ m 1 .checkMessages (omega arith) e u
@@ -100,11 +105,11 @@ module _ (G : Graph) (ok : Admitted G) (Nq : ℕ) (φ : Offsets) (c : ℕ → Bo
 
 pub symmetry : Symmetry
 unfolding R R′
-symmetry G ok Nq φ c y y′ hy = record {
-  exactly = (mirrored G ok Nq φ c y y′ hy, only G ok Nq φ c y y′ hy);
-  runs = same-run G ok Nq φ c y y′ hy;
+symmetry G ok Nq φ Λ c y y′ hy = record {
+  exactly = (mirrored G ok Nq φ Λ c y y′ hy, only G ok Nq φ Λ c y y′ hy);
+  runs = same-run G ok Nq φ Λ c y y′ hy;
   nonzero = (
-    (λ t. outgoing-nonzero G y (levelAt (state G (signPreserving G Nq φ y) t .checkMessages))),
-    (λ t. outgoing-nonzero G y′ (levelAt (state G (signPreserving G Nq φ y′) t .checkMessages))),
+    (λ t. outgoing-nonzero G y (countedIn Nq Λ t (levelAt (state G (signPreserving G Nq φ Λ y) t .checkMessages)))),
+    (λ t. outgoing-nonzero G y′ (countedIn Nq Λ t (levelAt (state G (signPreserving G Nq φ Λ y′) t .checkMessages)))),
   );
 }

@@ -9,49 +9,55 @@ use lib.IntN.{ℤ, pos, _+ℤ_}
 use Rattle.rules.specs.Ranges.{fold, but, tabulate}
 use Rattle.rules.specs.Levels.{Level, plusZero}
 use Rattle.rules.specs.Graphs.{Graph, Admitted, variableDegree, unsatisfied}
-use Rattle.rules.specs.Nodes.{Offsets, firstMessage, firstBit, fromCheck, contribution, extra, channelPart, share, posterior, bitOf, outgoingSum, outgoing, fromVariable}
-use Rattle.rules.specs.Sequence.{Scheme, signPreserving, levelAt, bitAt, begun, sentIn, sent, iterated, next, state, unsatisfiedIn, stop, final, report}
+use Rattle.rules.specs.Nodes.{Offsets, Lifting, firstMessage, firstBit, fromCheck, contribution, extra, channelPart, share, posterior, bitOf, outgoingSum, outgoing, fromVariable}
+use Rattle.rules.specs.Sequence.{Scheme, unlifted, countedIn, signPreserving, levelAt, bitAt, begun, sentIn, sent, iterated, next, state, unsatisfiedIn, stop, final, report}
 use Rattle.rules.specs.declared.Report.{Report}
 use Rattle.rules.specs.declared.Verdict.the-variants.{Codeword, Stopped}
 use Rattle.rules.proofs.Ranges.{tabulate-ext, first-ext}
 
-module _ (G : Graph) (ok : Admitted G) (Nq : ℕ) (φ : Offsets) (y y′ : ℕ → Level) (h : (v : ℕ) → v < G .variables → y v ≡ y′ v) where
+module _ (G : Graph) (ok : Admitted G) (Nq : ℕ) (φ : Offsets) (Λ : Lifting) (y y′ : ℕ → Level) (h : (v : ℕ) → v < G .variables → y v ≡ y′ v) where
   R : Scheme
-  R = signPreserving G Nq φ y
+  R = signPreserving G Nq φ Λ y
 
   R′ : Scheme
-  R′ = signPreserving G Nq φ y′
+  R′ = signPreserving G Nq φ Λ y′
 
   part-same : (v : ℕ) → v < G .variables → channelPart G y v ≡ channelPart G y′ v
   unfolding channelPart
   part-same v u = ap (contribution (extra (variableDegree G v))) (h v u)
 
   sent-same : (t : ℕ) (q C : List Level) → sentIn G R t q C ≡ sentIn G R′ t q C
-  unfolding R R′ signPreserving sentIn fromVariable outgoingSum
+  unfolding R R′ signPreserving unlifted sentIn fromVariable outgoingSum
   sent-same zero q C = refl
-  sent-same (suc t) q C = tabulate-ext (fromVariable G Nq φ y (levelAt C)) (fromVariable G Nq φ y′ (levelAt C)) (G .entries)
-      (λ e u. ap (λ s. outgoing Nq φ (s +ℤ fold _+ℤ_ (pos 0) (but (pos 0) e (share G (levelAt C) (G .column e))) 0 (G .entries))) (part-same (G .column e) (ok .within e u)))
+  sent-same (suc t) q C = tabulate-ext (fromVariable G Nq φ y f) (fromVariable G Nq φ y′ f) (G .entries)
+      (λ e u. ap (λ s. outgoing Nq φ (s +ℤ fold _+ℤ_ (pos 0) (but (pos 0) e (share G f (G .column e))) 0 (G .entries))) (part-same (G .column e) (ok .within e u)))
+    where
+      f : ℕ → Level
+      f = countedIn Nq Λ (suc t) (levelAt C)
 
   iterated-same : (t : ℕ) (q : List Level) → iterated G R t q ≡ iterated G R′ t q
-  unfolding R R′ signPreserving iterated posterior
+  unfolding R R′ signPreserving unlifted iterated posterior
   iterated-same t q = ap₂ (λ S b. record { iteration = t; variableMessages = q; checkMessages = C; sums = S; bits = b }) sums-same bits-same
     where
       C : List Level
       C = tabulate (fromCheck G (levelAt q)) (G .entries)
 
+      f : ℕ → Level
+      f = countedIn Nq Λ t (levelAt C)
+
       S : (ℕ → Level) → List ℤ
-      S y = tabulate (posterior G y (levelAt C)) (G .variables)
+      S y = tabulate (posterior G y f) (G .variables)
 
       sums-same : S y ≡ S y′
-      sums-same = tabulate-ext (posterior G y (levelAt C)) (posterior G y′ (levelAt C)) (G .variables)
-          (λ v u. ap (λ s. s +ℤ fold _+ℤ_ (pos 0) (share G (levelAt C) v) 0 (G .entries)) (part-same v u))
+      sums-same = tabulate-ext (posterior G y f) (posterior G y′ f) (G .variables)
+          (λ v u. ap (λ s. s +ℤ fold _+ℤ_ (pos 0) (share G f v) 0 (G .entries)) (part-same v u))
 
       bits-same : tabulate (λ v. bitOf (getD (S y) v (pos 0)) (y v .minus)) (G .variables) ≡ tabulate (λ v. bitOf (getD (S y′) v (pos 0)) (y′ v .minus)) (G .variables)
       bits-same = tabulate-ext (λ v. bitOf (getD (S y) v (pos 0)) (y v .minus)) (λ v. bitOf (getD (S y′) v (pos 0)) (y′ v .minus)) (G .variables)
           (λ v u. ap₂ (λ l m. bitOf (getD l v (pos 0)) (m .minus)) sums-same (h v u))
 
   state-same : (t : ℕ) → state G R t ≡ state G R′ t
-  unfolding R R′ state begun next sent signPreserving firstMessage firstBit
+  unfolding R R′ state begun next sent signPreserving unlifted firstMessage firstBit
   state-same zero = ap₂ (λ q b. record { iteration = 0; variableMessages = q; checkMessages = tabulate (λ e. plusZero) (G .entries); sums = tabulate (λ v. pos 0) (G .variables); bits = b })
       (tabulate-ext (firstMessage G Nq y) (firstMessage G Nq y′) (G .entries)
       (λ e u. ap (λ (l : Level). record { minus = l .minus; magnitude = min (l .magnitude) Nq }) (h (G .column e) (ok .within e u))))
@@ -69,11 +75,11 @@ module _ (G : Graph) (ok : Admitted G) (Nq : ℕ) (φ : Offsets) (y y′ : ℕ �
   unfolding stop
   stop-same limit = first-ext (λ t. eqb (unsatisfiedIn G R t) 0) (λ t. eqb (unsatisfiedIn G R′ t) 0) (λ t. ap (λ k. eqb k 0) (unsatisfied-same t)) 0 limit
 
-  pub final-same : (limit : ℕ) → final G (signPreserving G Nq φ y) limit ≡ final G (signPreserving G Nq φ y′) limit
+  pub final-same : (limit : ℕ) → final G (signPreserving G Nq φ Λ y) limit ≡ final G (signPreserving G Nq φ Λ y′) limit
   unfolding R R′ final
   final-same limit = ap (state G R) (stop-same limit) ∙ state-same (stop G R′ limit)
 
-  pub report-same : (limit : ℕ) → report G (signPreserving G Nq φ y) limit ≡ report G (signPreserving G Nq φ y′) limit
+  pub report-same : (limit : ℕ) → report G (signPreserving G Nq φ Λ y) limit ≡ report G (signPreserving G Nq φ Λ y′) limit
   unfolding R R′ report
   report-same limit = ap₂ reported (stop-same limit) (ap (unsatisfiedIn G R) (stop-same limit) ∙ unsatisfied-same (stop G R′ limit))
     where

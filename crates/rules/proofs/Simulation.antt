@@ -19,6 +19,17 @@ module _ (G : Graph) (R : Scheme) where
   state-number zero = refl
   state-number (suc t) = ap suc (state-number t)
 
+  -- the sums of iteration t + 1, and what is sent in it
+  pub sum-at : (t v : ℕ) → v < G .variables → getD (state G R (suc t) .sums) v (pos 0) ≡ R .sum (suc t) (levelAt (state G R (suc t) .checkMessages)) v
+  unfolding state next iterated
+  sum-at t v u =
+      let C : ℕ → Level = levelAt (state G R (suc t) .checkMessages) in
+      getD-tabulate (R .sum (suc (state G R t .iteration)) C) (G .variables) v (pos 0) u ∙ ap (λ k. R .sum (suc k) C v) (state-number t)
+
+  pub sent-is : (t : ℕ) → sent G R (state G R (suc t)) ≡ tabulate (R .variable (suc t) (levelAt (state G R (suc t) .checkMessages))) (G .entries)
+  unfolding state next iterated sent sentIn
+  sent-is t = ap (λ k. tabulate (R .variable (suc k) (levelAt (state G R (suc t) .checkMessages))) (G .entries)) (state-number t)
+
 module _ (G G′ : Graph) (R R′ : Scheme) (σ π : ℕ → ℕ) (turn : ℕ → Level → Level) (flip : ℕ → ℤ → ℤ) where
   -- the messages q′ of the second are those of the first, turned
   abbrev pub Matches : (ℕ → Level) → (ℕ → Level) → Type 0
@@ -29,8 +40,8 @@ module _ (G G′ : Graph) (R R′ : Scheme) (σ π : ℕ → ℕ) (turn : ℕ �
     pub variables : (v : ℕ) → v < G .variables → π v < G′ .variables
     pub firstMessage : Matches (R .firstMessage) (R′ .firstMessage)
     pub check : (q q′ : ℕ → Level) → Matches q q′ → Matches (R .check q) (R′ .check q′)
-    pub sum : (C C′ : ℕ → Level) → Matches C C′ → (v : ℕ) → v < G .variables → R′ .sum C′ (π v) ≡ flip v (R .sum C v)
-    pub variable : (C C′ : ℕ → Level) → Matches C C′ → Matches (R .variable C) (R′ .variable C′)
+    pub sum : (t : ℕ) (C C′ : ℕ → Level) → Matches C C′ → (v : ℕ) → v < G .variables → R′ .sum t C′ (π v) ≡ flip v (R .sum t C v)
+    pub variable : (t : ℕ) (C C′ : ℕ → Level) → Matches C C′ → Matches (R .variable t C) (R′ .variable t C′)
 
   -- of two states of the same iteration
   pub record Mirrors (s s′ : State) : Type 0 where
@@ -57,13 +68,21 @@ module _ (G G′ : Graph) (R R′ : Scheme) (σ π : ℕ → ℕ) (turn : ℕ �
     unfolding next iterated sent sentIn
     next-mirrors s s′ m = record {
       iteration = ap suc (m .iteration);
-      variableMessages = tables (R .variable (levelAt C)) (R′ .variable (levelAt C′)) (T .variable (levelAt C) (levelAt C′) back);
+      variableMessages = tables (R .variable t (levelAt C)) (R′ .variable t′ (levelAt C′))
+          (λ e u. ap (λ k. R′ .variable (suc k) (levelAt C′) (σ e)) (m .iteration) ∙ T .variable t (levelAt C) (levelAt C′) back e u);
       checkMessages = λ h. back;
-      sums = λ h v u. getD-tabulate (R′ .sum (levelAt C′)) (G′ .variables) (π v) (pos 0) (T .variables v u)
-          ∙ T .sum (levelAt C) (levelAt C′) back v u
-          ∙ ap (flip v) (sym (getD-tabulate (R .sum (levelAt C)) (G .variables) v (pos 0) u));
+      sums = λ h v u. getD-tabulate (R′ .sum t′ (levelAt C′)) (G′ .variables) (π v) (pos 0) (T .variables v u)
+          ∙ ap (λ k. R′ .sum (suc k) (levelAt C′) (π v)) (m .iteration)
+          ∙ T .sum t (levelAt C) (levelAt C′) back v u
+          ∙ ap (flip v) (sym (getD-tabulate (R .sum t (levelAt C)) (G .variables) v (pos 0) u));
     }
       where
+        t : ℕ
+        t = suc (s .iteration)
+
+        t′ : ℕ
+        t′ = suc (s′ .iteration)
+
         q : ℕ → Level
         q = levelAt (sent G R s)
 

@@ -1,6 +1,6 @@
--- Document 01, 'One iteration': what check nodes and variable nodes send, posterior sums and bits.
+-- Document 01, 'One iteration', and document 02, item 1: what check nodes and variable nodes send, posterior sums and bits.
 -- A rule takes messages as a function of the entry, and channel levels as a function of the variable.
-use mathlib.Core.Bool.{Bool, true, false, not, cond, xor}
+use mathlib.Core.Bool.{Bool, true, false, not, cond, xor, _&&_}
 use Prim.Native.Nat.{ℕ, zero, suc, _+_, _-_, _*_, _/_, min}
 use lib.Dec.{eqb, leb, ltb}
 use lib.IntN.{ℤ, pos, negsuc, _+ℤ_, negℤ, natAbs}
@@ -28,6 +28,29 @@ others G op z f e = fold op z (but z e f) (G .start (checkOf G e)) (checkDegree 
 -- largest magnitude of a byte, and every check has another entry.
 unfoldable pub fromCheck : Graph → (ℕ → Level) → ℕ → Level
 fromCheck G q e = record { minus = others G xor false (λ k. q k .minus) e; magnitude = others G min 127 (λ k. q k .magnitude) e }
+
+-- ---- how a check message counts
+
+-- L and W.
+pub record Lifting : Type 0 where
+  pub from : ℕ
+  pub to : ℕ
+
+-- 'Where 256 means never.'
+abbrev pub never : ℕ
+never = 256
+
+-- 'From iteration L on'; never means in iterations 256, 257, .. too.
+unfoldable pub lifts : Lifting → ℕ → Bool
+lifts Λ t = leb (Λ .from) t && not (eqb (Λ .from) never)
+
+-- 'A check message of magnitude Nq counts as magnitude W', every other as it is.
+unfoldable pub lifted : ℕ → ℕ → Level → Level
+lifted Nq W l = record { minus = l .minus; magnitude = cond (eqb (l .magnitude) Nq) W (l .magnitude) }
+
+-- How a check message counts in the sums of iteration t.
+unfoldable pub counted : ℕ → Lifting → ℕ → Level → Level
+counted Nq Λ t l = cond (lifts Λ t) (lifted Nq (Λ .to) l) l
 
 -- ---- 'Posterior sum, kept in halves'
 

@@ -1,4 +1,4 @@
--- Document 01, 'One iteration': the iterations one after the other, without end, and the run that stops among them.
+-- Document 01, 'One iteration', and document 02, item 1: the iterations one after the other, without end, and the run that stops among them.
 -- An iteration's state is lists, as the lent memory holds them.
 use mathlib.Core.Bool.{Bool, false, cond}
 use mathlib.Core.List.{List}
@@ -9,7 +9,7 @@ use lib.IntN.{ℤ, pos}
 use Rattle.rules.specs.Ranges.{tabulate, first}
 use Rattle.rules.specs.Levels.{Level, plusZero}
 use Rattle.rules.specs.Graphs.{Graph, unsatisfied}
-use Rattle.rules.specs.Nodes.{Offsets, firstMessage, firstBit, fromCheck, posterior, bitOf, fromVariable}
+use Rattle.rules.specs.Nodes.{Offsets, Lifting, firstMessage, firstBit, fromCheck, counted, posterior, bitOf, fromVariable}
 use Rattle.rules.specs.declared.Report.{Report}
 use Rattle.rules.specs.declared.Verdict.the-variants.{Codeword, Stopped}
 
@@ -18,20 +18,37 @@ pub record Scheme : Type 0 where
   pub firstMessage : ℕ → Level  -- iteration 0: what is sent at an entry
   pub firstBit : ℕ → Bool  -- iteration 0: the bit of a variable
   pub check : (ℕ → Level) → ℕ → Level  -- check to variable, from the variable messages
-  pub sum : (ℕ → Level) → ℕ → ℤ  -- the posterior sum, from the check messages
+  pub sum : ℕ → (ℕ → Level) → ℕ → ℤ  -- the posterior sum of an iteration, from its check messages
   pub bit : ℤ → ℕ → Bool  -- the bit, from the posterior sum
-  pub variable : (ℕ → Level) → ℕ → Level  -- variable to check, from the check messages
+  pub variable : ℕ → (ℕ → Level) → ℕ → Level  -- variable to check in an iteration, from its check messages
 
--- The rules of this document, Sign-Preserving Min-Sum, from the channel levels y.
-unfoldable pub signPreserving : Graph → ℕ → Offsets → (ℕ → Level) → Scheme
-signPreserving G Nq φ y = record {
+-- The rules of document 01, Sign-Preserving Min-Sum without lifting, from the channel levels y.
+unfoldable pub unlifted : Graph → ℕ → Offsets → (ℕ → Level) → Scheme
+unlifted G Nq φ y = record {
   firstMessage = firstMessage G Nq y;
   firstBit = firstBit y;
   check = fromCheck G;
-  sum = posterior G y;
+  sum = λ t. posterior G y;
   bit = λ s v. bitOf s (y v .minus);
-  variable = fromVariable G Nq φ y;
+  variable = λ t. fromVariable G Nq φ y;
 }
+
+-- The check messages C as they count in iteration t.
+abbrev pub countedIn : ℕ → Lifting → ℕ → (ℕ → Level) → ℕ → Level
+countedIn Nq Λ t C e = counted Nq Λ t (C e)
+
+-- Document 02, item 1: 'in the variable's sum and in the posterior sum' of an iteration the check messages are taken as they count there.
+unfoldable pub signPreserving : Graph → ℕ → Offsets → Lifting → (ℕ → Level) → Scheme
+signPreserving G Nq φ Λ y =
+    let R : Scheme = unlifted G Nq φ y in
+    record {
+      firstMessage = R .firstMessage;
+      firstBit = R .firstBit;
+      check = R .check;
+      sum = λ t C. R .sum t (countedIn Nq Λ t C);
+      bit = R .bit;
+      variable = λ t C. R .variable t (countedIn Nq Λ t C);
+    }
 
 -- The lists of one iteration.
 pub record State : Type 0 where
@@ -62,7 +79,7 @@ module _ (G : Graph) (R : Scheme) where
   -- The variable messages sent in iteration t, whose checks took in q and sent C: the last step, from iteration 1 on.
   unfoldable pub sentIn : ℕ → List Level → List Level → List Level
   sentIn zero q C = q
-  sentIn (suc t) q C = tabulate (R .variable (levelAt C)) (G .entries)
+  sentIn (suc t) q C = tabulate (R .variable (suc t) (levelAt C)) (G .entries)
 
   unfoldable pub sent : State → List Level
   sent σ = sentIn (σ .iteration) (σ .variableMessages) (σ .checkMessages)
@@ -71,7 +88,7 @@ module _ (G : Graph) (R : Scheme) where
   unfoldable pub iterated : ℕ → List Level → State
   iterated t q =
       let C : List Level = tabulate (R .check (levelAt q)) (G .entries) in
-      let S : List ℤ = tabulate (R .sum (levelAt C)) (G .variables) in
+      let S : List ℤ = tabulate (R .sum t (levelAt C)) (G .variables) in
       record { iteration = t; variableMessages = q; checkMessages = C; sums = S; bits = tabulate (λ v. R .bit (getD S v (pos 0)) v) (G .variables) }
 
   unfoldable pub next : State → State

@@ -8,8 +8,8 @@ use lib.ListN.{getD}
 use lib.IntN.{ℤ, pos, negℤ}
 use Rattle.rules.specs.Levels.{Level}
 use Rattle.rules.specs.Graphs.{Graph, Admitted, Codeword}
-use Rattle.rules.specs.Nodes.{Offsets, outgoingSum}
-use Rattle.rules.specs.Sequence.{Scheme, signPreserving, levelAt, bitAt, sent, state, final, report}
+use Rattle.rules.specs.Nodes.{Offsets, Lifting, outgoingSum}
+use Rattle.rules.specs.Sequence.{Scheme, countedIn, signPreserving, levelAt, bitAt, sent, state, final, report}
 
 -- The level with its sign reversed where b, its magnitude kept.
 unfoldable pub turned : Bool → Level → Level
@@ -43,16 +43,17 @@ pub record SameRun (G : Graph) (c : ℕ → Bool) (R R′ : Scheme) (limit : ℕ
   pub report : report G R′ limit ≡ report G R limit
   pub bits : (v : ℕ) → v < G .variables → bitAt (final G R′ limit .bits) v ≡ xor (c v) (bitAt (final G R limit .bits) v)
 
--- In no iteration is an outgoing variable sum zero.
-abbrev pub NeverZero : Graph → ℕ → Offsets → (ℕ → Level) → Type 0
-NeverZero G Nq φ y =
-    (t e : ℕ) → e < G .entries → outgoingSum G y (levelAt (state G (signPreserving G Nq φ y) t .checkMessages)) e ≢ pos 0
+-- In no iteration is an outgoing variable sum zero, with the check messages as they count there.
+abbrev pub NeverZero : Graph → ℕ → Offsets → Lifting → (ℕ → Level) → Type 0
+NeverZero G Nq φ Λ y =
+    (t e : ℕ) → e < G .entries → outgoingSum G y (countedIn Nq Λ t (levelAt (state G (signPreserving G Nq φ Λ y) t .checkMessages))) e ≢ pos 0
 
-pub record Symmetric (G : Graph) (Nq : ℕ) (φ : Offsets) (c : ℕ → Bool) (y y′ : ℕ → Level) : Type 0 where
-  pub exactly : Codeword G c ↔ ((t : ℕ) → Mirrored G c (signPreserving G Nq φ y) (signPreserving G Nq φ y′) t)
-  pub runs : Codeword G c → (limit : ℕ) → SameRun G c (signPreserving G Nq φ y) (signPreserving G Nq φ y′) limit
-  pub nonzero : NeverZero G Nq φ y × NeverZero G Nq φ y′
+pub record Symmetric (G : Graph) (Nq : ℕ) (φ : Offsets) (Λ : Lifting) (c : ℕ → Bool) (y y′ : ℕ → Level) : Type 0 where
+  pub exactly : Codeword G c ↔ ((t : ℕ) → Mirrored G c (signPreserving G Nq φ Λ y) (signPreserving G Nq φ Λ y′) t)
+  pub runs : Codeword G c → (limit : ℕ) → SameRun G c (signPreserving G Nq φ Λ y) (signPreserving G Nq φ Λ y′) limit
+  pub nonzero : NeverZero G Nq φ Λ y × NeverZero G Nq φ Λ y′
 
--- Demand 3, over levels: for every admitted graph, every Nq and offsets, all channel levels and every c.
+-- Demand 3, over levels: for every admitted graph, every Nq, offsets and lifting, all channel levels and every c.
 abbrev pub Symmetry : Type 0
-Symmetry = (G : Graph) → Admitted G → (Nq : ℕ) (φ : Offsets) (c : ℕ → Bool) (y y′ : ℕ → Level) → Reversed G c y y′ → Symmetric G Nq φ c y y′
+Symmetry = (G : Graph) → Admitted G → (Nq : ℕ) (φ : Offsets) (Λ : Lifting) (c : ℕ → Bool) (y y′ : ℕ → Level) → Reversed G c y y′
+    → Symmetric G Nq φ Λ c y y′

@@ -1,6 +1,6 @@
--- Document 01, 'Trial values': the ★ cases of variable nodes, and the whole example with its variants, as one table. A check node and
--- two ties stand there too, since neither 'the recipient's own message counted in a check's least' nor 'a tied sum sent to bit 0' shows
--- in the others.
+-- Document 01, 'Trial values': the ★ cases of variable nodes, and the whole example with its variants, as one table, with the trial of
+-- document 02, item 1. A check node and two ties stand there too, since neither 'the recipient's own message counted in a check's least' nor
+-- 'a tied sum sent to bit 0' shows in the others; and variables with lifting before L, never, and with messages that are not of magnitude Nq.
 use mathlib.Core.Bool.{Bool, true, false, _&&_}
 use mathlib.Core.List.{List, [], _∷_, map}
 use Prim.Native.Nat.{ℕ, suc, _-_}
@@ -12,7 +12,7 @@ use Rattle.rules.specs.Tables.{AllPass, sameList}
 use Rattle.rules.specs.Ranges.{one, tabulate}
 use Rattle.rules.specs.Levels.{Level, byte}
 use Rattle.rules.specs.Graphs.{Graph}
-use Rattle.rules.specs.Nodes.{Offsets, fromCheck, posterior, bitOf, outgoingSum, fromVariable}
+use Rattle.rules.specs.Nodes.{Offsets, Lifting, never, fromCheck, posterior, bitOf, outgoingSum, fromVariable}
 use Rattle.rules.specs.Sequence.{Scheme, signPreserving, levelAt, final, report}
 use Rattle.rules.specs.declared.Report.{Report}
 use Rattle.rules.specs.declared.Verdict.{Verdict}
@@ -28,16 +28,22 @@ minus n = record { minus = true; magnitude = n }
 abbrev pub offsets : Offsets
 offsets = record { phiS = 1; phiA = 1; phi0 = 0 }
 
+-- L and W.
+abbrev pub lifting : ℕ → ℕ → Lifting
+lifting from to = record { from = from; to = to }
+
 pub data Trial : Type 0 where
   -- a variable of this level, with these others, has the outgoing sum U
   sums : Level → List Level → ℤ → Trial
   -- it sends this message (Nq 3)
   sends : Level → List Level → Level → Trial
+  -- under this lifting, in this iteration, it sends this message (Nq 1)
+  sendsIn : Lifting → ℕ → Level → List Level → Level → Trial
   -- a variable of this level that takes in these messages has this bit
   decides : Level → List Level → Bool → Trial
   -- a check that takes in these messages sends these back
   answers : List Level → List Level → Trial
-  -- the example's graph with these levels and this limit (Nq 3): verdict, iterations, unsatisfied checks, bits
+  -- the example's graph with these levels and this limit (Nq 3, nothing lifted): verdict, iterations, unsatisfied checks, bits
   runs : List Level → ℕ → Verdict → ℕ → ℕ → List Bool → Trial
 
 -- One variable with as many entries as levels come in; entry 0 is the recipient's.
@@ -61,6 +67,11 @@ trials =
     ∷ sends (plus 3) (plus 0 ∷ plus 0 ∷ []) (plus 3)
     ∷ sends (plus 3) (plus 0 ∷ minus 0 ∷ []) (plus 2)
     ∷ sends (plus 1) (plus 0 ∷ minus 0 ∷ []) (plus 1)
+    ∷ sendsIn (lifting 1 2) 1 (minus 3) (plus 1 ∷ plus 1 ∷ []) (plus 0)
+    ∷ sendsIn (lifting 2 2) 1 (minus 3) (plus 1 ∷ plus 1 ∷ []) (minus 0)
+    ∷ sendsIn (lifting never 2) 256 (minus 3) (plus 1 ∷ plus 1 ∷ []) (minus 0)
+    ∷ sendsIn (lifting 1 2) 1 (minus 3) (plus 1 ∷ plus 0 ∷ []) (minus 0)
+    ∷ sendsIn (lifting 1 2) 1 (minus 7) (plus 3 ∷ plus 3 ∷ []) (minus 0)
     ∷ decides (minus 1) (plus 0 ∷ plus 0 ∷ []) true
     ∷ decides (plus 1) (minus 0 ∷ minus 0 ∷ []) false
     ∷ answers (plus 0 ∷ minus 2 ∷ plus 3 ∷ []) (minus 2 ∷ plus 0 ∷ minus 0 ∷ [])
@@ -90,10 +101,11 @@ incoming l k = levelAt l (k - 1)
 unfoldable pub passes : Trial → Bool
 passes (sums y l U) = sameSum (outgoingSum (star (suc (length l))) (λ v. y) (incoming l) 0) U
 passes (sends y l m) = eqb (byte (fromVariable (star (suc (length l))) 3 offsets (λ v. y) (incoming l) 0)) (byte m)
+passes (sendsIn Λ t y l m) = eqb (byte (signPreserving (star (suc (length l))) 1 offsets Λ (λ v. y) .variable t (incoming l) 0)) (byte m)
 passes (decides y l b) = eqb (one (bitOf (posterior (star (length l)) (λ v. y) (levelAt l) 0) (y .minus))) (one b)
 passes (answers q C) = sameList (tabulate (λ e. byte (fromCheck (fan (length q)) (levelAt q) e)) (length q)) (map byte C)
 passes (runs y limit verdict t u b) =
-    let R : Scheme = signPreserving example 3 offsets (levelAt y) in
+    let R : Scheme = signPreserving example 3 offsets (lifting never 15) (levelAt y) in
     let r : Report = report example R limit in
     sameList (verdictNumber (r .verdict) ∷ r .iterations ∷ r .unsatisfied ∷ bitNumbers (final example R limit .bits))
     (verdictNumber verdict ∷ t ∷ u ∷ bitNumbers b)

@@ -53,6 +53,7 @@ pub enum Refusal {
     Length(usize),
     RunText(usize),
     Bit(usize),
+    Lifting,
 }
 
 // The paper's number of a refusal, and its place.
@@ -96,6 +97,10 @@ impl Refusal {
             Refusal::Length(place) => Numbered { number: 13, place },
             Refusal::RunText(place) => Numbered { number: 14, place },
             Refusal::Bit(place) => Numbered { number: 15, place },
+            Refusal::Lifting => Numbered {
+                number: 16,
+                place: 0,
+            },
         }
     }
 }

@@ -3,3 +3,4 @@ pub mod Lines
 pub mod Storing
 pub mod Lengths
 pub mod Trying
+pub mod Unlifted

@@ -6,10 +6,12 @@ use mathlib.Core.List.{List, [], _∷_, _++_}
 use Prim.Native.Nat.{ℕ, zero, suc}
 use lib.Dec.{leb}
 use lib.ListN.{length, drop}
+use Rattle.rules.specs.Nodes.{never}
 use Rattle.lines.specs.Numbers.{Front, other, value}
 use Rattle.lines.specs.Lines.{lf, fixed}
 use Rattle.words.specs.Words.{bytes}
 use Rattle.channel.specs.declared.Parameters.{Parameters}
+use Rattle.channel.specs.Settings.{largestLift}
 use Rattle.run_text.specs.declared.Run.{Run}
 use Rattle.run_text.specs.declared.Run.the-variants as Answer
 use Rattle.run_text.specs.Texts.{titles, settingsLine, valueTitle, pattern}
@@ -61,3 +63,7 @@ valuesIn (read g values) old = values ++ drop (length values) old
 pub record ReadAs (x : RunText) (r : Run) (old now : List ℕ) : Type 0 where
   pub answer : r ≡ answerOf x
   pub values : now ≡ valuesIn x old
+
+-- Document 02, item 1: 'run text means L 256', and W the largest, which then never shows: what a run text asks lifts nothing.
+abbrev pub NeverLifts : Type 0
+NeverLifts = (n : ℕ) (t : List ℕ) (g : Parameters) (values : List ℕ) → runText n t ≡ read g values → (g .«lift_from» ≡ never) × (g .«lift_to» ≡ largestLift)

@@ -9,6 +9,8 @@ use Rattle.lines.specs.Numbers.{Front, other, value}
 use Rattle.lines.specs.Lines.{space, lf, andThen, endedBy, field, fixed}
 use Rattle.channel.specs.declared.Scaling.{Scaling}
 use Rattle.channel.specs.declared.Scaling.the-variants.{Plain, Noise}
+use Rattle.rules.specs.Nodes.{never}
+use Rattle.channel.specs.Settings.{largestLift}
 use Rattle.channel.specs.declared.Parameters.{Parameters}
 
 -- The first of two forms that stands there.
@@ -74,6 +76,7 @@ unfoldable pub settings : ℕ → List ℕ → Front Three
 settings x t =
     andThen (setting space t) (λ a t₁. andThen (setting space t₁) (λ b t₂. andThen (setting x t₂) (λ c t₃. value (three a b c) t₃)))
 
+-- 'Run text means L 256'; W then never shows.
 abbrev pub given : Scaling → Three → Three → Parameters
 given s a b = record {
   scaling = s;
@@ -83,6 +86,8 @@ given s a b = record {
   «phi_a» = b .first;
   «phi_0» = b .second;
   limit = b .third;
+  «lift_from» = never;
+  «lift_to» = largestLift;
 }
 
 -- 'Line 2 the values': scaling, channel, message, phi_s, then phi_a, phi_0, limit.

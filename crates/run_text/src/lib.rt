@@ -267,6 +267,8 @@ fn settings_line_at(s: &[u8], at: usize, noise: bool) -> Line
             phi_a,
             phi_0,
             limit,
+            lift_from: channel::NEVER,
+            lift_to: channel::LARGEST_LIFT,
         },
         next,
     }

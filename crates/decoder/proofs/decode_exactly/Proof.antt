@@ -4,7 +4,7 @@ use Rattle.rules.specs.Ranges.{tabulate}
 use Rattle.rules.specs.Levels.{byte}
 use Rattle.rules.proofs.Own.{largest-within}
 use Rattle.words.specs.Roles.{graphOf}
-use Rattle.decoder.specs.Steps.{offsetsIn, levelsUnder}
+use Rattle.decoder.specs.Steps.{offsetsIn, liftingIn, levelsUnder}
 use Rattle.decoder.proofs.Beginning.{begins-as, begun-length, begun-holds, begun-levels, ready-sized, runs-same}
 use borrow.Author.Needs.{needs}
 use Rattle.decoder.proofs.decode_exactly.Statement.{statement}
@@ -43,8 +43,8 @@ run-requires c κs =
     record {
       settings = z .settings;
       sized = ready-sized (graphOf (a .n) (a .starts .now) (a .columns .now)) (z .admitted) (s .pre .1 .0)
-          (begun-length (a .n) (a .starts .now) (a .columns .now) _ (offsetsIn (a .s)) w (z .count)) (kept .0 ∙ long .1) (kept .1 .0 ∙ long .2) (kept .1 .1 .0 ∙ long .3) (kept .1 .1 .1 .0 ∙ long .4);
-      holds = begun-holds (a .n) (a .starts .now) (a .columns .now) _ (offsetsIn (a .s)) w (z .count) (long .2) (long .3);
+          (begun-length (a .n) (a .starts .now) (a .columns .now) _ (offsetsIn (a .s)) (liftingIn (a .s)) w (z .count)) (kept .0 ∙ long .1) (kept .1 .0 ∙ long .2) (kept .1 .1 .0 ∙ long .3) (kept .1 .1 .1 .0 ∙ long .4);
+      holds = begun-holds (a .n) (a .starts .now) (a .columns .now) _ (offsetsIn (a .s)) (liftingIn (a .s)) w (z .count) (long .2) (long .3);
     }
 
 same-length : tie.Need-same-length
@@ -70,8 +70,8 @@ returns c =
     let w = begins-as (c .before .before .before .before .before .before .before .before .before .before .before .before .before .before .before .before .before .before .before .before .before .before .before .before .before .before .before .before .before .before .before .largest .ensures) (c .before .before .before .before .before .before .before .before .before .before .before .before .before .before .before .before .before .before .before .before .before .before .before .before .before .before .before .before .before .before .largest2 .ensures) (c .before .before .before .before .before .before .before .before .before .before .before .before .before .before .before .before .before .before .before .before .before .before .before .before .begin .ensures) in
     record {
       levels = w .levels ∙ ap (tabulate (λ v. byte (levelsUnder (a .s) (a .values .now) v))) (z .count);
-      runs = runs-same (graphOf (a .n) (a .starts .now) (a .columns .now)) (z .admitted) _ _ _ (levelsUnder (a .s) (a .values .now))
-          (begun-levels (a .n) (a .starts .now) (a .columns .now) _ (offsetsIn (a .s)) w (z .count) (omega (arith, largest-within (a .s .channel) (z .settings .channel .1)))) (c .before .before .before .before .before .before .before .before .run .ensures);
+      runs = runs-same (graphOf (a .n) (a .starts .now) (a .columns .now)) (z .admitted) _ _ _ _ (levelsUnder (a .s) (a .values .now))
+          (begun-levels (a .n) (a .starts .now) (a .columns .now) _ (offsetsIn (a .s)) (liftingIn (a .s)) w (z .count) (omega (arith, largest-within (a .s .channel) (z .settings .channel .1)))) (c .before .before .before .before .before .before .before .before .run .ensures);
     }
 
 pub decode-exactly-spec : {M : Type 1} → statement M

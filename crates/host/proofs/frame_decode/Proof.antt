@@ -11,7 +11,7 @@ use Rattle.host.proofs.frame_decode.Statement.{statement}
 use Rattle.host.proofs.frame_decode.Tie as tie
 
 abbrev asked : tie.Start → Scaling → Parameters
-asked s scaling = let a = s .args in askedOf scaling (a .channel) (a .message) (a .phi-s) (a .phi-a) (a .phi-0) (a .limit)
+asked s scaling = let a = s .args in askedOf scaling (a .channel) (a .message) (a .phi-s) (a .phi-a) (a .phi-0) (a .limit) (a .lift-from) (a .lift-to)
 
 abbrev F : tie.Start → Scaling → Frame
 F s scaling = frame (s .args .n) (s .args .starts .now) (s .args .columns .now) (s .args .values .now) (asked s scaling)

@@ -1,84 +1,50 @@
 use borrow.Author.Needs.{needs}
-use mathlib.Core.Path.{_≡_, ap, _∙_}
-use Prim.Native.Nat.{_≤_, _<_, _-_, _+_, _/_, _^_}
+use mathlib.Core.Path.{_≡_, subst}
+use mathlib.Core.List.{List}
+use Prim.Native.Nat.{ℕ, _≤_, _<_, _-_, _+_}
 use native.Mathlib.Omega.{arith}
-use lib.IntN.{ℤ, natAbs, _-ℤ_}
-use lib.ListN.{length, getD}
+use lib.ListN.{length, set}
 use Rattle.rules.proofs.Filling.{Filled, filled-none, filled-more, filled-all}
-use Rattle.words.specs.Roles.{columnAt, sumAt}
-use Rattle.nodes.specs.Lists.{partIn, placeOf, sentBy}
-use Rattle.nodes.proofs.Signed.{less-fits, less-is, less-abs}
-use Rattle.nodes.proofs.Outgoing.{place-low}
+use Rattle.words.specs.Roles.{columnAt}
+use Rattle.nodes.specs.Lists.{sentBy}
 use Rattle.nodes.proofs.variable.variable_nodes.Statement.{statement}
 use Rattle.nodes.proofs.variable.variable_nodes.Tie as tie
 
 abbrev Inv-loop : tie.InvT-loop
-Inv-loop columns incoming sums parts messages outgoing₀ e₀ outgoing e =
+Inv-loop columns incoming sums parts messages outgoing₀ n e₀ outgoing e =
     (e ≤ length incoming) × Filled (sentBy parts messages (columnAt columns) sums incoming) outgoing₀ outgoing e
 
 abbrev μ-loop : tie.MeasureT-loop
-μ-loop columns incoming sums parts messages outgoing₀ e₀ outgoing e = length incoming - e
+μ-loop columns incoming sums parts messages outgoing₀ n e₀ outgoing e = length incoming - e
 
--- the entry's variable has a sum
-low : (c : tie.After-column Inv-loop μ-loop) → c .column .result < length (c .before .before .before .before .before .before .before .before .args .sums .now) / 4
-low c = rw (c .column .ensures .0) (c .before .before .before .before .before .before .before .before .pre .1 .0 (c .before .before .loop .e) (omega arith))
-
--- the part of the message that came in
-abbrev part : tie.After-place-arg Inv-loop μ-loop → ℤ
-part c = let a = c .before .before .before .before .before .before .before .before .before .before .before .args in partIn (a .parts .now) (a .incoming .now) (c .before .before .before .before .before .loop .e)
-
--- the sum and the part are small
-few : (c : tie.After-place-arg Inv-loop μ-loop) → natAbs (c .before .before .sum .result) + natAbs (part c) < 2 ^ 31
-few c =
-    let a = c .before .before .before .before .before .before .before .before .before .before .before in
-    omega (
-      arith,
-      ap natAbs (c .before .before .sum .ensures),
-      a .pre .1 .1 (c .before .before .before .column .result) (low (c .before .before .before)),
-      a .pre .0 .2 .small (getD (a .args .incoming .now) (c .before .before .before .before .before .loop .e) 0),
-    )
-
--- the sum without the part
-abbrev rest : tie.After-place Inv-loop μ-loop → ℤ
-rest c = let a = c .before .before .before .before .before .before .before .before .before .before .before .before .args in sumAt (a .sums .now) (columnAt (a .columns .now) (c .before .before .before .before .before .before .loop .e)) -ℤ part (c .before)
-
-place-is : (c : tie.After-place Inv-loop μ-loop) → c .place .result ≡ placeOf (rest c)
-place-is c =
-    c .place .ensures ∙ ap placeOf (less-is (c .before .before .before .sum .result) (part (c .before)) (few (c .before))
-    ∙ ap (λ s. s -ℤ part (c .before)) (c .before .before .before .sum .ensures ∙ ap (sumAt (c .before .before .before .before .before .before .before .before .before .before .before .before .args .sums .now)) (c .before .before .before .before .column .ensures .0)))
+two-more : {f : ℕ → ℕ} {old now : List ℕ} {e x y : ℕ} → e + 1 < length old → Filled f old now e → x ≡ f e → y ≡ f (e + 1) → Filled f old (set (set now e x) (e + 1) y) (e + 2)
+two-more {f} {old} {now} {e} {x} {y} l h p q =
+    let two : e + 1 + 1 ≡ e + 2 = omega arith in
+    subst (Filled f old (set (set now e x) (e + 1) y)) two (filled-more l (filled-more (omega arith) h p) q)
 
 loop-holds : tie.Need-loop-holds Inv-loop μ-loop
 loop-holds c = (omega arith, filled-none _ _)
 
-column-requires : tie.Need-column-requires Inv-loop μ-loop
-column-requires c κs = omega arith
+add-loop : tie.Need-add-loop Inv-loop μ-loop
+add-loop c = search needs
 
-sum-requires : tie.Need-sum-requires Inv-loop μ-loop
-sum-requires c κs = low c
-
-shared-slice-read-place : tie.Need-shared-slice-read-place Inv-loop μ-loop
-shared-slice-read-place c = search needs
-
-cast-place : tie.Need-cast-place Inv-loop μ-loop
-cast-place c = omega (arith, c .shared-slice-known5 .given (c .before .before .before .before .loop .e))
-
-mul-place : tie.Need-mul-place Inv-loop μ-loop
-mul-place c = omega (arith, c .shared-slice-known5 .given (c .before .before .before .before .loop .e))
-
-shared-slice-copy-out-place : tie.Need-shared-slice-copy-out-place Inv-loop μ-loop
-shared-slice-copy-out-place c = omega (arith, c .before .before .before .before .before .before .before .before .before .before .pre .0 .2 .long, c .shared-slice-known5 .given (c .before .before .before .before .loop .e))
-
-sub-place : tie.Need-sub-place Inv-loop μ-loop
-sub-place c = less-fits (c .before .before .sum .result) (part c) (few c)
-
-place-requires : tie.Need-place-requires Inv-loop μ-loop
-place-requires c κs = rw (less-is (c .before .before .sum .result) (part c) (few c)) (omega (arith, less-abs (c .before .before .sum .result) (part c) (few c), few c))
-
-shared-slice-read-outgoing : tie.Need-shared-slice-read-outgoing Inv-loop μ-loop
-shared-slice-read-outgoing c = omega (arith, place-is (c .before), place-low (rest (c .before)))
+sent-requires : tie.Need-sent-requires Inv-loop μ-loop
+sent-requires c κs = let p = c .before .before .before .before .before .before .before .pre in ((p .0 .0, omega arith, p .0 .2, p .0 .3), (p .1 .0 _ (omega arith), p .1 .1))
 
 slice-write-outgoing : tie.Need-slice-write-outgoing Inv-loop μ-loop
 slice-write-outgoing c = search needs
+
+add-sent : tie.Need-add-sent Inv-loop μ-loop
+add-sent c = search needs
+
+sent-requires-2 : tie.Need-sent-requires-2 Inv-loop μ-loop
+sent-requires-2 c κs = let p = c .before .before .before .before .before .before .before .before .pre in ((p .0 .0, omega arith, p .0 .2, p .0 .3), (p .1 .0 _ (omega arith), p .1 .1))
+
+add-outgoing : tie.Need-add-outgoing Inv-loop μ-loop
+add-outgoing c = search needs
+
+slice-write-outgoing-2 : tie.Need-slice-write-outgoing-2 Inv-loop μ-loop
+slice-write-outgoing-2 c = search needs
 
 add-e : tie.Need-add-e Inv-loop μ-loop
 add-e c = search needs
@@ -87,13 +53,25 @@ loop-less : tie.Need-loop-less Inv-loop μ-loop
 loop-less c = search needs
 
 loop-again : tie.Need-loop-again Inv-loop μ-loop
-loop-again c = (omega arith, filled-more (omega arith) (c .before .before .before .before .before .before .before .loop .inv .1) (ap (λ k. getD (c .before .before .before .before .before .before .before .before .before .before .before .before .before .args .messages .now) k 0) (place-is (c .before))))
+loop-again c = (omega arith, two-more (omega arith) (c .before .before .before .loop .inv .1) (c .before .sent .ensures) (c .sent2 .ensures))
+
+sent-requires-3 : tie.Need-sent-requires-3 Inv-loop μ-loop
+sent-requires-3 c κs = let p = c .before .before .before .before .before .before .before .before .pre in ((p .0 .0, omega arith, p .0 .2, p .0 .3), (p .1 .0 _ (omega arith), p .1 .1))
+
+slice-write-outgoing-3 : tie.Need-slice-write-outgoing-3 Inv-loop μ-loop
+slice-write-outgoing-3 c = search needs
 
 same-length : tie.Need-same-length Inv-loop μ-loop
 same-length c = search needs
 
 returns : tie.Need-returns Inv-loop μ-loop
-returns c = filled-all (omega arith) (omega arith) (c .before .loop .inv .1)
+returns c = filled-all (omega arith) (omega arith) (filled-more (omega arith) (c .before .before .before .loop .inv .1) (c .sent3 .ensures))
+
+same-length-2 : tie.Need-same-length-2 Inv-loop μ-loop
+same-length-2 c = search needs
+
+returns-2 : tie.Need-returns-2 Inv-loop μ-loop
+returns-2 c = filled-all (omega arith) (omega arith) (c .before .before .loop .inv .1)
 
 pub variable-nodes-spec : {M : Type 1} → statement M
 variable-nodes-spec =
@@ -102,18 +80,19 @@ variable-nodes-spec =
     Inv-loop
     μ-loop
     loop-holds
-    column-requires
-    sum-requires
-    shared-slice-read-place
-    cast-place
-    mul-place
-    shared-slice-copy-out-place
-    sub-place
-    place-requires
-    shared-slice-read-outgoing
+    add-loop
+    sent-requires
     slice-write-outgoing
+    add-sent
+    sent-requires-2
+    add-outgoing
+    slice-write-outgoing-2
     add-e
     loop-less
     loop-again
+    sent-requires-3
+    slice-write-outgoing-3
     same-length
-    returns)
+    returns
+    same-length-2
+    returns-2)

@@ -47,6 +47,9 @@ enum-known-self-9 c = search needs
 enum-known-self-10 : tie.Need-enum-known-self-10
 enum-known-self-10 c = search needs
 
+enum-told-6 : tie.Need-enum-told-6
+enum-told-6 c = search needs
+
 returns : tie.Need-returns
 returns c = rw (c .before .self .given .1)
 
@@ -92,6 +95,9 @@ returns-14 c = rw (c .before .self9 .given .1)
 returns-15 : tie.Need-returns-15
 returns-15 c = rw (c .before .self10 .given .1)
 
+returns-16 : tie.Need-returns-16
+returns-16 c = rw (c .enum-told6 .given .1)
+
 pub numbered-spec : {M : Type 1} → statement M
 numbered-spec =
     tie.close
@@ -111,6 +117,7 @@ numbered-spec =
     enum-known-self-8
     enum-known-self-9
     enum-known-self-10
+    enum-told-6
     returns
     returns-2
     returns-3
@@ -125,4 +132,5 @@ numbered-spec =
     returns-12
     returns-13
     returns-14
-    returns-15)
+    returns-15
+    returns-16)

@@ -1,7 +1,7 @@
 use mathlib.Core.Path.{_≡_}
 use native.Mathlib.Omega.{arith}
-use Rattle.decoder.proofs.largest.Statement.{statement}
-use Rattle.decoder.proofs.largest.Tie as tie
+use Rattle.channel.proofs.largest.Statement.{statement}
+use Rattle.channel.proofs.largest.Tie as tie
 
 returns : tie.Need-returns
 returns c = rw (c .if1 .taken)
