@@ -1,5 +1,6 @@
 /* Reads document 01's example sheet, decodes the example and three inputs near it on the lists that it gave, then a frame that stalls and
-   the same frame with lifting, and writes the sheet back, as a scanner's host would. Then a sheet that is refused, with its line. */
+   the same frame with lifting, and writes the sheet back, as a scanner's host would. Then a sheet that is refused, with its line. Last a
+   block sheet: its graph row by row, the same sheet written from its numbers, and one that is refused. */
 #include <stdio.h>
 #include <string.h>
 
@@ -26,6 +27,14 @@ static const uint8_t damaged[] = {0, 0, 0x20, 0x40, 0, 0, 0xc0, 0x7f, 0, 0, 0xc0
 /* 3.5, -3.5, -3.5: levels +3, -3, -3. Variable 0 hears -3 in every iteration, which just balances its own level, so it keeps its sign and
    check 0 stays odd. Lifted to 4 the message outweighs the level. */
 static const uint8_t stalled[] = {0, 0, 0x60, 0x40, 0, 0, 0x60, 0xc0, 0, 0, 0x60, 0xc0};
+
+/* Blocks of 3, in one row of two columns, shifted by 1 and by 2. */
+enum { SIZE = 3, ROWS = 1, COLUMNS = 2, BLOCKS = 2 };
+static const char block_sheet[] = "size rows columns\n3 1 2\nrow column shift\n0 0 1\n0 1 2\n";
+/* Its fourth line has a shift that is not below the size. */
+static const char too_far[] = "size rows columns\n3 1 2\nrow column shift\n0 0 3\n0 1 2\n";
+/* Row, column and shift of each block. */
+static const uint8_t blocks[] = {0, 0, 0, 0, 0, 0, 0, 0, 1, 0, 0, 0, 0, 0, 0, 0, 1, 0, 0, 0, 2, 0, 0, 0};
 
 static void refused(uint64_t answer, size_t place)
 {
@@ -93,6 +102,45 @@ static void decode(const uint8_t *values, uint32_t limit)
     decode_lifted(values, limit, FRAME_NEVER, 15);
 }
 
+static unsigned number(const uint8_t *list, size_t i)
+{
+    const uint8_t *bytes = list + 4 * i;
+    return (unsigned)bytes[0] | (unsigned)bytes[1] << 8 | (unsigned)bytes[2] << 16 | (unsigned)bytes[3] << 24;
+}
+
+/* Prints the variables of each check on a line. */
+static void read_blocks(const char *given)
+{
+    uint8_t degrees[4 * COLUMNS * SIZE], starts[4 * (ROWS * SIZE + 1)], columns[4 * BLOCKS * SIZE];
+    const uint8_t *text = (const uint8_t *)given;
+    size_t length = strlen(given);
+
+    uint64_t answer = frame_read_blocks(text, length, degrees, sizeof degrees, starts, sizeof starts, columns, sizeof columns);
+    if (frame_refusal(answer) != 0) {
+        refused(answer, frame_read_blocks_place(text, length, degrees, sizeof degrees, sizeof starts, sizeof columns));
+        return;
+    }
+    printf("variables checks entries\n%u %u %u\n", frame_variables(answer), frame_checks(answer), frame_entries(answer, starts));
+    for (unsigned check = 0; check < frame_checks(answer); check++) {
+        for (unsigned entry = number(starts, check); entry < number(starts, check + 1); entry++) {
+            printf("%s%u", entry == number(starts, check) ? "" : " ", number(columns, entry));
+        }
+        putchar('\n');
+    }
+}
+
+static void write_blocks(void)
+{
+    uint8_t degrees[4 * COLUMNS * SIZE], text[59 + 21 * BLOCKS];
+
+    uint64_t answer = frame_write_blocks(SIZE, ROWS, COLUMNS, blocks, sizeof blocks, degrees, sizeof degrees, text, sizeof text);
+    if (frame_refusal(answer) != 0) {
+        refused(answer, frame_write_blocks_place(SIZE, ROWS, COLUMNS, blocks, sizeof blocks, degrees, sizeof degrees, sizeof text));
+        return;
+    }
+    fwrite(text, 1, frame_text_length(answer), stdout);
+}
+
 int main(void)
 {
     read_sheet(sheet);
@@ -104,5 +152,8 @@ int main(void)
     decode_lifted(stalled, 5, 3, 4);
     write_sheet();
     read_sheet(turned);
+    read_blocks(block_sheet);
+    write_blocks();
+    read_blocks(too_far);
     return 0;
 }

@@ -1,5 +1,5 @@
-/* How much stack each call of the library takes, on a graph of 1,000,000 variables and checks and 4,000,000 entries: the call is made on a
-   stack that is painted before it, and what is no longer painted after it is counted. Prints a line for each call, with what frame.h says
+/* How much stack each call of the library takes, on a graph of 1,000,000 variables and checks and 4,000,000 entries, and on a block sheet of
+   as many: the call is made on a stack that is painted before it, and what is no longer painted after it is counted. Prints a line for each call, with what frame.h says
    it takes at most; the status is 1 where a call takes more. */
 #include "frame.h"
 
@@ -15,6 +15,10 @@ static uint8_t levels[VARIABLES], variable_messages[ENTRIES], check_messages[ENT
 static uint8_t read_starts[sizeof starts], read_columns[sizeof columns];
 static size_t text_length;
 static uint64_t answer;
+
+/* Every block of four rows and four columns, each shifted in its own way. */
+enum { SIZE = 250000, ROWS = 4, COLUMNS = 4, BLOCKS = ROWS * COLUMNS };
+static uint8_t blocks[12 * BLOCKS], block_text[59 + 21 * BLOCKS];
 
 static int rising(const void *a, const void *b) { return *(const int *)a - *(const int *)b; }
 
@@ -34,6 +38,14 @@ static void make_frame(void) {
   for (int v = 0; v < VARIABLES; v++) {
     float y = v % 5 == 0 ? -one : one;
     memcpy(values + 4 * (size_t)v, &y, 4);
+  }
+}
+
+static void make_blocks(void) {
+  for (unsigned i = 0; i < BLOCKS; i++) {
+    put32(blocks, 3 * i, i / COLUMNS);
+    put32(blocks, 3 * i + 1, i % COLUMNS);
+    put32(blocks, 3 * i + 2, SIZE - 1 - 7 * i);
   }
 }
 
@@ -80,6 +92,27 @@ static void *read_sheet_place(void *none) {
   return none;
 }
 
+static void *write_blocks(void *none) {
+  answer = frame_write_blocks(SIZE, ROWS, COLUMNS, blocks, sizeof blocks, degrees, sizeof degrees, block_text, sizeof block_text);
+  return none;
+}
+
+static void *write_blocks_place(void *none) {
+  answer = frame_write_blocks_place(SIZE, ROWS, COLUMNS, blocks, sizeof blocks, degrees, sizeof degrees, sizeof block_text);
+  return none;
+}
+
+static void *read_blocks(void *none) {
+  answer = frame_read_blocks(block_text, text_length, degrees, sizeof degrees, read_starts, sizeof read_starts, read_columns,
+                             sizeof read_columns);
+  return none;
+}
+
+static void *read_blocks_place(void *none) {
+  answer = frame_read_blocks_place(block_text, text_length, degrees, sizeof degrees, sizeof read_starts, sizeof read_columns);
+  return none;
+}
+
 /* How many bytes of a painted stack a call leaves changed. */
 static size_t taken(void *(*call)(void *)) {
   static _Alignas(4096) uint8_t stack[STACK];
@@ -113,6 +146,7 @@ static void measure(const char *name, void *(*call)(void *), size_t most) {
 
 int main(void) {
   make_frame();
+  make_blocks();
   own = taken(nothing);
   measure("frame_decode", decode, FRAME_DECODE_STACK);
   measure("frame_decode, lifted", decode_lifted, FRAME_DECODE_STACK);
@@ -122,5 +156,10 @@ int main(void) {
   measure("frame_write_sheet_place", write_sheet_place, FRAME_WRITE_SHEET_STACK);
   measure("frame_read_sheet", read_sheet, FRAME_READ_SHEET_STACK);
   measure("frame_read_sheet_place", read_sheet_place, FRAME_READ_SHEET_STACK);
+  measure("frame_write_blocks", write_blocks, FRAME_WRITE_BLOCKS_STACK);
+  text_length = frame_text_length(answer);
+  measure("frame_write_blocks_place", write_blocks_place, FRAME_WRITE_BLOCKS_STACK);
+  measure("frame_read_blocks", read_blocks, FRAME_READ_BLOCKS_STACK);
+  measure("frame_read_blocks_place", read_blocks_place, FRAME_READ_BLOCKS_STACK);
   return too_many;
 }

@@ -22,9 +22,10 @@ extern "C" {
 #endif
 
 /* How many bytes of stack a call or its companion takes at most, beside its caller's. Measured on x86-64 on a graph of the most variables, checks
-   and entries: decode 2,136, reading a sheet 520, writing one 544. No list of a call grows with the graph: the compiled calls have frames of
-   fixed size, and recurse only for the seven digits of a count of 1,000,000. */
-enum { FRAME_DECODE_STACK = 4096, FRAME_READ_SHEET_STACK = 2048, FRAME_WRITE_SHEET_STACK = 2048 };
+   and entries: decode 2,136, reading a sheet 520, writing one 544, reading a block sheet 1,064, writing one 216. No list of a call grows with the
+   graph: the compiled calls have frames of fixed size, and recurse only for the seven digits of a count of 1,000,000. */
+enum { FRAME_DECODE_STACK = 4096, FRAME_READ_SHEET_STACK = 2048, FRAME_WRITE_SHEET_STACK = 2048, FRAME_READ_BLOCKS_STACK = 2048,
+       FRAME_WRITE_BLOCKS_STACK = 2048 };
 
 /* The kind of scaling: a gain alone (the variance is not looked at), or a gain with a noise variance. */
 enum { FRAME_PLAIN = 0, FRAME_NOISE = 1 };
@@ -84,12 +85,41 @@ uint64_t frame_write_sheet(size_t n, const uint8_t *starts, size_t starts_length
 size_t frame_write_sheet_place(size_t n, const uint8_t *starts, size_t starts_length, const uint8_t *columns, size_t columns_length,
                                uint8_t *degrees, size_t degrees_length, size_t text_length);
 
+/* Reads a block sheet: a code sheet that gives its graph by shifted blocks.
+
+   Its lines: `size rows columns`, these three numbers, `row column shift`, then a line for each entry, rising by row and then column, at most
+   one for each pair. With size Z, entry (i, j, k) puts a one at check iZ + r and variable jZ + ((r + k) mod Z) for every r below Z. The graph
+   of these ones, its expansion, has n = columns times Z variables, m = rows times Z checks and E = Z times the entries, and comes as
+   frame_read_sheet gives it: lists, lengths and answer are as there. */
+uint64_t frame_read_blocks(const uint8_t *text, size_t text_length, uint8_t *degrees, size_t degrees_length, uint8_t *starts,
+                           size_t starts_length, uint8_t *columns, size_t columns_length);
+
+/* The place of the refusal that frame_read_blocks gives for the same text and lent lists of these lengths, a line counted from 1 for
+   1 to 4 and 17; 0 where it refuses nothing. The list of degrees is left as frame_read_blocks leaves it. */
+size_t frame_read_blocks_place(const uint8_t *text, size_t text_length, uint8_t *degrees, size_t degrees_length, size_t starts_length,
+                               size_t columns_length);
+
+/* Writes the block sheet of a size, counts of rows and columns, and entries: three u32 for each, row, column and shift.
+
+   Lent: degrees, 4 times columns times size bytes, as above; text, as many bytes as the sheet has; 59 bytes and 21 for each entry are
+   enough.
+   Afterwards the sheet stands at its front, and bytes past it are as they were. It refuses as frame_read_blocks would of that text, with the
+   same places, up to 5; then 6 where the text is too short. After a refusal every byte but the degrees' is as it was. The answer is taken
+   apart by frame_refusal and frame_text_length. */
+uint64_t frame_write_blocks(size_t size, size_t rows, size_t columns, const uint8_t *entries, size_t entries_length, uint8_t *degrees,
+                            size_t degrees_length, uint8_t *text, size_t text_length);
+
+/* The place of the refusal that frame_write_blocks gives for the same numbers, entries, list of degrees and a lent text of this length; 0
+   where it refuses nothing. The list of degrees is left as frame_write_blocks leaves it. */
+size_t frame_write_blocks_place(size_t size, size_t rows, size_t columns, const uint8_t *entries, size_t entries_length,
+                                uint8_t *degrees, size_t degrees_length, size_t text_length);
+
 /* The number of the refusal, 0 where nothing is refused. Of any call:
-   2 a count outside its limits, in a sheet also a 4,000,001st entry; 3 a column not below n, in a sheet a number out of range; 4 a column not
-   above its predecessor in the row, in a sheet an entry not after the one above; 5 a degree outside its limits; 6 a lent buffer too short,
-   the list of degrees before 5 is looked for and every other last.
-   Of read: 1 a line of another form, or a missing line or LF.
-   Of decode and write: 7 starts not beginning at 0, one below the start before it, or not ending at E.
+   2 a count outside its limits, in a sheet also an entry past the 4,000,000th, in a block sheet one that takes E past that; 3 a column not
+   below n, in a sheet a number out of range; 4 a column not above its predecessor in the row, in a sheet an entry not after the one above; 5 a
+   degree outside its limits; 6 a lent buffer too short, the list of degrees before 5 is looked for and every other last.
+   Of reading: 1 a line of another form, or a missing line or LF. Of block sheets: 17 a size of 0, or a shift not below the size.
+   Of decode and of writing a sheet: 7 starts not beginning at 0, one below the start before it, or not ending at E.
    Of decode: 8 precisions not admitted; 9 an offset above 1 or limit above 255; 16 lift_from or lift_to outside its bounds; 10 gain or variance
    not finite and above zero, or another kind; 11 factor infinite or zero; 12 a value infinite or NaN; 13 other than n values. */
 static inline unsigned frame_refusal(uint64_t answer) { return (unsigned)(answer & 255); }
@@ -100,7 +130,7 @@ static inline int frame_is_codeword(uint64_t answer) { return (answer >> 8 & 255
 static inline unsigned frame_iterations(uint64_t answer) { return (unsigned)(answer >> 16 & 65535); }
 static inline unsigned frame_unsatisfied(uint64_t answer) { return (unsigned)(answer >> 32); }
 
-/* Of read, where nothing is refused: n, m, and E, which is the last of the starts that were read. */
+/* Of reading, where nothing is refused: n, m, and E, which is the last of the starts that were read. */
 static inline unsigned frame_variables(uint64_t answer) { return (unsigned)(answer >> 8 & 16777215); }
 static inline unsigned frame_checks(uint64_t answer) { return (unsigned)(answer >> 32 & 16777215); }
 static inline unsigned frame_entries(uint64_t answer, const uint8_t *starts) {
@@ -108,7 +138,7 @@ static inline unsigned frame_entries(uint64_t answer, const uint8_t *starts) {
   return (unsigned)last[0] | (unsigned)last[1] << 8 | (unsigned)last[2] << 16 | (unsigned)last[3] << 24;
 }
 
-/* Of write, where nothing is refused: the length of the text in bytes. */
+/* Of writing, where nothing is refused: the length of the text in bytes. */
 static inline size_t frame_text_length(uint64_t answer) { return (size_t)(answer >> 8); }
 
 #ifdef __cplusplus

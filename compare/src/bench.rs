@@ -1,11 +1,12 @@
 //! Tables of each decoder's times: decode on large and on small graphs, with lifting off and
-//! on, and sheets.
+//! on, sheets, and block sheets.
 
 mod frames;
 mod times;
 
-use crate::generate::{Lists, texts};
+use crate::generate::{Lists, blocks, graphs, texts};
 use crate::interface::Verdict;
+use crate::paper::blocks::text_of;
 use crate::random::Random;
 use frames::{Batch, FRAMES, SMALL_FRAMES, STRIP_FRAMES};
 use times::{DecodeTimes, Named, SHORTEST, Times};
@@ -14,6 +15,9 @@ const SEED: u64 = 36;
 const SIZES: [usize; 3] = [2_046, 4_092, 8_190];
 const SMALL_SIZES: [usize; 2] = [24, 96];
 const STRIP_SIZE: usize = 1_000_000;
+
+/// Size and columns of the block sheets: expansions of 29,970 and 3,000,000 entries.
+const BLOCKS: [(usize, usize); 2] = [(27, 370), (2_000, 500)];
 
 const ROUNDS: usize = 101;
 const STRIP_ROUNDS: usize = 11;
@@ -33,6 +37,7 @@ pub fn run(decoders: &[Named]) {
     let strip = strip(decoders);
     println!("nanoseconds for the strip's sheet:");
     sheets(decoders, &strip, STRIP_ROUNDS);
+    block_sheets(decoders);
 }
 
 /// Gives the largest graph.
@@ -103,6 +108,26 @@ fn sheets(decoders: &[Named], lists: &Lists, rounds: usize) {
     for (index, (name, _)) in decoders.iter().enumerate() {
         let [read, written] = [0, 1].map(|call: usize| 1e9 / calls[call].1[index].median);
         println!("sheets per second by {name}: {read:.0} read, {written:.0} written");
+    }
+}
+
+/// Blocks where a (3,6)-regular graph has its entries.
+fn block_sheets(decoders: &[Named]) {
+    println!("nanoseconds for a block sheet of a (3,6)-regular graph of blocks, by their size;");
+    println!("entries are the expansion's, median and least of {ROUNDS} rounds:");
+    heading(&["call", "size", "entries", "bytes"], decoders, &[]);
+    for (size, columns) in BLOCKS {
+        let random = &mut Random::for_input(SEED, size as u64);
+        let lists = graphs::regular(random, columns, 3, 6);
+        let sheet = blocks::on_graph(random, size, &lists);
+        let (entries, bytes) = (size * sheet.entries.len(), text_of(&sheet).len());
+        let calls = [
+            ("read", times::read_blocks_times(decoders, &sheet, ROUNDS)),
+            ("write", times::write_blocks_times(decoders, &sheet, ROUNDS)),
+        ];
+        for (call, times) in &calls {
+            row(&format!("{call:>11}{size:>11}{entries:>11}{bytes:>11}"), times, 0, None);
+        }
     }
 }
 

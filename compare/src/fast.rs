@@ -1,14 +1,15 @@
 //! The same calls written for speed: the baseline of the benchmark, and the stand-in for
 //! the library where none is linked.
 
+pub mod blocks;
 pub mod decode;
 pub mod graph;
 pub mod sheet;
 mod tables;
 
 use crate::interface::{
-    Answer, DecodeInput, Decoded, Decoder, GraphBytes, Lent, LentLengths, NUMBER_BYTES, Refusal,
-    SheetCounts,
+    Answer, BlocksBytes, DecodeInput, Decoded, Decoder, GraphBytes, Lent, LentLengths,
+    NUMBER_BYTES, Refusal, SheetCounts,
 };
 
 pub struct Fast;
@@ -92,5 +93,46 @@ impl Decoder for Fast {
 
     fn write_sheet_place(&self, graph: &GraphBytes, degrees: &mut [u8], text: usize) -> usize {
         place(sheet::measure(graph, degrees, text))
+    }
+    fn read_blocks(
+        &self,
+        text: &[u8],
+        degrees: &mut [u8],
+        starts: &mut [u8],
+        columns: &mut [u8],
+    ) -> Answer<SheetCounts> {
+        match blocks::read(text, degrees, starts.len(), columns.len()) {
+            Ok(read) => {
+                blocks::expand(&read, starts, columns);
+                Answer::Accepted(SheetCounts { n: read.n, m: read.m })
+            }
+            Err(refusal) => Answer::Refused(refusal.number),
+        }
+    }
+
+    fn read_blocks_place(
+        &self,
+        text: &[u8],
+        degrees: &mut [u8],
+        starts: usize,
+        columns: usize,
+    ) -> usize {
+        place(blocks::read(text, degrees, starts, columns))
+    }
+
+    fn write_blocks(
+        &self,
+        blocks: &BlocksBytes,
+        degrees: &mut [u8],
+        text: &mut [u8],
+    ) -> Answer<usize> {
+        match blocks::measure(blocks, degrees, text.len()) {
+            Ok(_) => Answer::Accepted(blocks::write(blocks, text)),
+            Err(refusal) => Answer::Refused(refusal.number),
+        }
+    }
+
+    fn write_blocks_place(&self, blocks: &BlocksBytes, degrees: &mut [u8], text: usize) -> usize {
+        place(blocks::measure(blocks, degrees, text))
     }
 }

@@ -1,8 +1,10 @@
 //! Decoders with one fault each. The harness must find every one, and none where there is
 //! none.
 
+mod blocks;
 mod calls;
 mod found;
+mod found_blocks;
 mod lifting;
 
 use crate::interface::{DecodeInput, LentLengths, Verdict, as_number, f32_list};
@@ -72,6 +74,30 @@ enum Fault {
     SixteenBeforeNine,
     SixteenAfterTen,
     SixteenWithPlace,
+    // Block sheets.
+    BlocksShiftedBack,
+    ShiftNotReduced,
+    BlockCountsExchanged,
+    BlocksByColumn,
+    BlockPairTwice,
+    ShiftOfSizeAdmitted,
+    SizeZeroAsTwo,
+    SeventeenBeforeThree,
+    SeventeenAfterFour,
+    SeventeenWithoutPlace,
+    FormBeforeBlockLimit,
+    BlockLimitRoundedUp,
+    BlockProductWrapped,
+    BlockNumbersOf32Bits,
+    BlockPlaceWithoutTop,
+    BlockPlaceByRow,
+    BlockListStoredBeforeFive,
+    BlockDegreesLeftOut,
+    BlockDegreesAfterFive,
+    BlockPartRead,
+    BlockTextBeforeFive,
+    BlockTextWrittenPast,
+    BlockWriterWithoutPlace,
 }
 
 struct Faulty(Fault);

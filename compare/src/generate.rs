@@ -1,5 +1,9 @@
 //! Seeded random inputs: graphs, settings, values, sheets and run texts, good and damaged.
 
+pub mod block_limits;
+pub mod block_orders;
+pub mod block_strips;
+pub mod blocks;
 pub mod cases;
 pub mod codewords;
 pub mod damage;

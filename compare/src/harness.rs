@@ -1,6 +1,7 @@
 //! The comparison of a decoder with the paper: series of inputs, and what went wrong.
 
 mod arena;
+mod blocks;
 pub mod check;
 mod programs;
 mod report;
@@ -12,6 +13,7 @@ use check::check;
 pub use programs::{refusal_number, run_programs};
 pub use series::{Budget, Failure, Series};
 
+use crate::generate::block_strips::{self, BLOCK_STRIPS};
 use crate::generate::cases::{self, Case};
 use crate::generate::strips::{STRIPS, strip};
 use crate::interface::Decoder;
@@ -51,7 +53,10 @@ impl Inputs {
 
     fn strip(&self, number: u64) -> Option<Case> {
         let index = number.checked_sub(INPUTS_BEFORE_STRIPS)? as usize;
-        (index < STRIPS).then(|| strip(self.seed, index))
+        match index.checked_sub(STRIPS) {
+            None => Some(strip(self.seed, index)),
+            Some(index) => (index < BLOCK_STRIPS).then(|| block_strips::strip(self.seed, index)),
+        }
     }
 }
 
@@ -92,6 +97,13 @@ mod tests {
     use super::*;
     use crate::fast::Fast;
 
+    #[test]
+    fn the_strips_come_after_the_other_limits() {
+        let at_limits = cases::at_small_limits(&mut Random::new(1)).len() as u64;
+        assert!(INPUTS_BEFORE_LIMITS + at_limits <= INPUTS_BEFORE_STRIPS, "{at_limits}");
+        println!("{at_limits} inputs at the smaller limits");
+    }
+
     /// The call and the refusal's number of each strip, by its number.
     #[test]
     fn strips_are_what_they_are_for() {
@@ -115,6 +127,26 @@ mod tests {
                 // The codeword is found, and not at once.
                 assert!(seen.iterations.is_some_and(|count| (2..30).contains(&count)));
             }
+        }
+    }
+    /// The same of block sheets.
+    #[test]
+    fn block_strips_are_what_they_are_for() {
+        let expected = [
+            ("read blocks", 0),
+            ("write blocks", 0),
+            ("read blocks", 6),
+            ("read blocks", 5),
+            ("read blocks", 0),
+            ("write blocks", 0),
+            ("read blocks", 5),
+            ("read blocks", 0),
+            ("read blocks", 2),
+        ];
+        assert_eq!(expected.len(), BLOCK_STRIPS);
+        for (number, expected) in expected.into_iter().enumerate() {
+            let seen = check(&block_strips::strip(3, number), &Fast, number as u64).unwrap();
+            assert_eq!((seen.call, seen.refusal), expected, "block strip {number}");
         }
     }
 }

@@ -6,6 +6,9 @@
 /// The bytes of a start, a column or a degree.
 pub const NUMBER_BYTES: usize = 4;
 
+/// The bytes of a block sheet's entry: row, column and shift.
+pub const ENTRY_BYTES: usize = 3 * NUMBER_BYTES;
+
 /// L of a run in which nothing is lifted: "256 means never".
 pub const NEVER: u32 = 256;
 
@@ -70,6 +73,16 @@ pub struct GraphBytes<'a> {
     pub n: usize,
     pub starts: &'a [u8],
     pub columns: &'a [u8],
+}
+
+/// A block sheet's numbers, as the host gives them to be written: nothing is checked yet. A part
+/// of an entry at the end of the list is no entry.
+#[derive(Clone, Copy)]
+pub struct BlocksBytes<'a> {
+    pub size: usize,
+    pub rows: usize,
+    pub columns: usize,
+    pub entries: &'a [u8],
 }
 
 #[derive(Clone, Copy)]
@@ -156,6 +169,29 @@ pub trait Decoder {
     fn write_sheet(&self, graph: &GraphBytes, degrees: &mut [u8], text: &mut [u8])
     -> Answer<usize>;
     fn write_sheet_place(&self, graph: &GraphBytes, degrees: &mut [u8], text: usize) -> usize;
+
+    fn read_blocks(
+        &self,
+        text: &[u8],
+        degrees: &mut [u8],
+        starts: &mut [u8],
+        columns: &mut [u8],
+    ) -> Answer<SheetCounts>;
+    fn read_blocks_place(
+        &self,
+        text: &[u8],
+        degrees: &mut [u8],
+        starts: usize,
+        columns: usize,
+    ) -> usize;
+
+    fn write_blocks(
+        &self,
+        blocks: &BlocksBytes,
+        degrees: &mut [u8],
+        text: &mut [u8],
+    ) -> Answer<usize>;
+    fn write_blocks_place(&self, blocks: &BlocksBytes, degrees: &mut [u8], text: usize) -> usize;
 }
 
 /// What 32 bits leave of a count.

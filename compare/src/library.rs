@@ -2,7 +2,7 @@
 //! slices are passed and answers packed. It is built when the archive is linked.
 
 use crate::interface::{
-    Answer, DecodeInput, Decoded, Decoder, GraphBytes, Lent, SheetCounts, Verdict,
+    Answer, BlocksBytes, DecodeInput, Decoded, Decoder, GraphBytes, Lent, SheetCounts, Verdict,
 };
 
 unsafe extern "C" {
@@ -85,6 +85,45 @@ unsafe extern "C" {
         starts_length: usize,
         columns: *const u8,
         columns_length: usize,
+        degrees: *mut u8,
+        degrees_length: usize,
+        text_length: usize,
+    ) -> usize;
+    fn frame_read_blocks(
+        text: *const u8,
+        text_length: usize,
+        degrees: *mut u8,
+        degrees_length: usize,
+        starts: *mut u8,
+        starts_length: usize,
+        columns: *mut u8,
+        columns_length: usize,
+    ) -> u64;
+    fn frame_read_blocks_place(
+        text: *const u8,
+        text_length: usize,
+        degrees: *mut u8,
+        degrees_length: usize,
+        starts_length: usize,
+        columns_length: usize,
+    ) -> usize;
+    fn frame_write_blocks(
+        size: usize,
+        rows: usize,
+        columns: usize,
+        entries: *const u8,
+        entries_length: usize,
+        degrees: *mut u8,
+        degrees_length: usize,
+        text: *mut u8,
+        text_length: usize,
+    ) -> u64;
+    fn frame_write_blocks_place(
+        size: usize,
+        rows: usize,
+        columns: usize,
+        entries: *const u8,
+        entries_length: usize,
         degrees: *mut u8,
         degrees_length: usize,
         text_length: usize,
@@ -189,10 +228,7 @@ impl Decoder for Library {
                 columns.len(),
             )
         };
-        unpacked(answer, |answer| {
-            let counts = SheetCounts { n: field(answer, 8, 24), m: field(answer, 32, 24) };
-            (field(answer, 56, 8) == 0).then_some(counts)
-        })
+        unpacked(answer, sheet_counts)
     }
 
     fn read_sheet_place(
@@ -253,6 +289,94 @@ impl Decoder for Library {
             )
         }
     }
+
+    fn read_blocks(
+        &self,
+        text: &[u8],
+        degrees: &mut [u8],
+        starts: &mut [u8],
+        columns: &mut [u8],
+    ) -> Answer<SheetCounts> {
+        // SAFETY: as above.
+        let answer = unsafe {
+            frame_read_blocks(
+                text.as_ptr(),
+                text.len(),
+                degrees.as_mut_ptr(),
+                degrees.len(),
+                starts.as_mut_ptr(),
+                starts.len(),
+                columns.as_mut_ptr(),
+                columns.len(),
+            )
+        };
+        unpacked(answer, sheet_counts)
+    }
+
+    fn read_blocks_place(
+        &self,
+        text: &[u8],
+        degrees: &mut [u8],
+        starts: usize,
+        columns: usize,
+    ) -> usize {
+        // SAFETY: as above.
+        unsafe {
+            frame_read_blocks_place(
+                text.as_ptr(),
+                text.len(),
+                degrees.as_mut_ptr(),
+                degrees.len(),
+                starts,
+                columns,
+            )
+        }
+    }
+
+    fn write_blocks(
+        &self,
+        blocks: &BlocksBytes,
+        degrees: &mut [u8],
+        text: &mut [u8],
+    ) -> Answer<usize> {
+        // SAFETY: as above.
+        let answer = unsafe {
+            frame_write_blocks(
+                blocks.size,
+                blocks.rows,
+                blocks.columns,
+                blocks.entries.as_ptr(),
+                blocks.entries.len(),
+                degrees.as_mut_ptr(),
+                degrees.len(),
+                text.as_mut_ptr(),
+                text.len(),
+            )
+        };
+        unpacked(answer, |answer| Some(field(answer, 8, 56)))
+    }
+
+    fn write_blocks_place(&self, blocks: &BlocksBytes, degrees: &mut [u8], text: usize) -> usize {
+        // SAFETY: as above.
+        unsafe {
+            frame_write_blocks_place(
+                blocks.size,
+                blocks.rows,
+                blocks.columns,
+                blocks.entries.as_ptr(),
+                blocks.entries.len(),
+                degrees.as_mut_ptr(),
+                degrees.len(),
+                text,
+            )
+        }
+    }
+}
+
+/// n and m of a sheet of either kind.
+fn sheet_counts(answer: u64) -> Option<SheetCounts> {
+    let counts = SheetCounts { n: field(answer, 8, 24), m: field(answer, 32, 24) };
+    (field(answer, 56, 8) == 0).then_some(counts)
 }
 
 /// The low 8 bits are the refusal's number, 0 where nothing is refused; for a refusal the

@@ -15,6 +15,7 @@ const USAGE: &str = "usage:
   compare program COUNT SEED COMMAND [ARGUMENT..]      the program against the paper's
   compare frame                                        the paper's program itself
   compare trials (input | answers)                     what the program `trials` reads, and must print
+  compare blocks (input | answers)                     the same of `block_trials`
   compare bench                                        times";
 
 const DEFAULT_INPUTS: u64 = 100_000;
@@ -43,6 +44,8 @@ fn main() -> ExitCode {
         ["frame"] => frame(),
         ["trials", "input"] => print(&trials::input()),
         ["trials", "answers"] => print(&trials::answers()),
+        ["blocks", "input"] => print(&trials::blocks::input()),
+        ["blocks", "answers"] => print(&trials::blocks::answers()),
         ["bench"] => times(),
         _ => None,
     };

@@ -1,5 +1,6 @@
 //! The paper's rules, naive and clear. Quoted words in the comments are the paper's.
 
+pub mod blocks;
 pub mod graph;
 pub mod limits;
 pub mod program;
@@ -10,6 +11,7 @@ pub mod sheet;
 pub mod text;
 
 pub use crate::interface::Refusal;
+pub use blocks::{Blocks, Entry};
 pub use graph::{Graph, check_graph, count_odd_checks, row_of_check};
 pub use limits::Limits;
 pub use program::frame;

@@ -2,6 +2,8 @@
 //! values that are not theorems, then seeded sheets and run texts, so many of each
 //! answer.
 
+pub mod blocks;
+
 use crate::generate::cases::{self, ProgramCase};
 use crate::harness::refusal_number;
 use crate::paper;

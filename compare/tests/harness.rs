@@ -3,7 +3,7 @@
 mod common;
 
 use common::{degrees_of, lines};
-use compare::generate::cases::programs_at_limits;
+use compare::generate::cases::{programs_at_limits, programs_of_blocks};
 use compare::generate::codewords::Codewords;
 use compare::generate::{graphs, limits};
 use compare::paper::{
@@ -121,6 +121,18 @@ fn programs_of_65_536_bytes_and_one_more() {
     let expected = at_sizes.into_iter().chain(at_counts);
     let expected: Vec<Vec<u8>> = expected.map(|(number, place)| refusal(number, place)).collect();
     assert_eq!(printed, expected);
+}
+
+#[test]
+fn programs_read_no_block_sheet() {
+    let cases = programs_of_blocks(&mut Random::new(16));
+    let printed = cases.iter().map(|case| frame(case.code.as_deref(), &case.run_text));
+    // The last four have an ordinary sheet's first, second or third line, or too many bytes.
+    let of_parts = [(1, 2), (1, 3), (1, 4), (2, 0)];
+    let answers = std::iter::repeat_n((1, 1), cases.len() - 4).chain(of_parts);
+    for (printed, (number, place)) in printed.zip(answers) {
+        assert_eq!(printed, lines(&["refusal place", &format!("{number} {place}")]));
+    }
 }
 
 /// A program with the limits of lent graphs would not pass.

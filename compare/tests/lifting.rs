@@ -192,7 +192,7 @@ fn accepted_decodes(inputs: u64) -> impl Iterator<Item = (DecodeCase, Outcome)> 
         Case::Twin(TwinCase { decode, .. }) => {
             decode.outcome().ok().map(|outcome| (decode, outcome))
         }
-        Case::Read(_) | Case::Write(_) => None,
+        _ => None,
     })
 }
 
@@ -211,13 +211,13 @@ fn never_is_the_same_for_every_w() {
     }
 }
 
-/// Of 3,980 accepted runs 1,004 never lift; 856 others come out otherwise by lifting, 396 of
-/// them with other bits.
+/// Of 3,948 accepted runs 971 never lift; 842 others come out otherwise by lifting, 384 of them
+/// with other bits.
 #[test]
 fn lifting_shows_often_enough() {
     let [mut accepted, mut never, mut bits] = [0; 3];
     let mut changed = Vec::new();
-    for (case, outcome) in accepted_decodes(10_000) {
+    for (case, outcome) in accepted_decodes(12_000) {
         let plain = case.unlifted().outcome().unwrap();
         accepted += 1;
         never += usize::from(case.settings.lift_from == NEVER);

@@ -2,10 +2,13 @@
 //! least shows what other work on the machine has added.
 
 use super::frames::Batch;
-use crate::generate::{Lists, texts};
+use crate::generate::cases::{ReadCase, WriteBlocksCase};
+use crate::generate::{Lists, blocks, texts};
 use crate::interface::{
-    Answer, DecodeInput, Decoder, GraphBytes, Lent, LentLengths, NUMBER_BYTES, number_bytes,
+    Answer, BlocksBytes, DecodeInput, Decoder, GraphBytes, Lent, LentLengths, NUMBER_BYTES,
+    number_bytes,
 };
+use crate::paper::Blocks;
 use std::hint::black_box;
 use std::time::{Duration, Instant};
 
@@ -138,6 +141,36 @@ pub fn write_times(decoders: &[Named], lists: &Lists, rounds: usize) -> Vec<Time
         text.fill(0);
         let begun = Instant::now();
         let answer = black_box(decoder.write_sheet(black_box(&graph), &mut degrees, &mut text));
+        accepted_time(begun.elapsed(), &answer)
+    })
+}
+
+pub fn read_blocks_times(decoders: &[Named], blocks: &Blocks, rounds: usize) -> Vec<Times> {
+    let case = blocks::read_case(blocks);
+    let ReadCase { text, .. } = &case;
+    let [mut degrees, mut starts, mut columns] =
+        [case.degrees, case.starts, case.columns].map(|length| vec![0; length]);
+    in_turns(decoders, rounds, |decoder, _| {
+        degrees.fill(0);
+        starts.fill(0);
+        columns.fill(0);
+        let begun = Instant::now();
+        let text = black_box(text);
+        let answer = black_box(decoder.read_blocks(text, &mut degrees, &mut starts, &mut columns));
+        accepted_time(begun.elapsed(), &answer)
+    })
+}
+
+pub fn write_blocks_times(decoders: &[Named], blocks: &Blocks, rounds: usize) -> Vec<Times> {
+    let case = blocks::write_case(blocks);
+    let WriteBlocksCase { size, rows, columns, entries, .. } = &case;
+    let numbers = BlocksBytes { size: *size, rows: *rows, columns: *columns, entries };
+    let [mut degrees, mut text] = [case.degrees, case.text].map(|length| vec![0; length]);
+    in_turns(decoders, rounds, |decoder, _| {
+        degrees.fill(0);
+        text.fill(0);
+        let begun = Instant::now();
+        let answer = black_box(decoder.write_blocks(black_box(&numbers), &mut degrees, &mut text));
         accepted_time(begun.elapsed(), &answer)
     })
 }

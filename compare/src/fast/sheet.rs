@@ -61,7 +61,7 @@ fn take_pair(rest: &mut &[u8]) -> Option<(u32, u32)> {
 }
 
 /// Takes a number and the byte that ends it.
-fn take_number(rest: &mut &[u8], ending: u8) -> Option<u32> {
+pub fn take_number(rest: &mut &[u8], ending: u8) -> Option<u32> {
     let mut number = 0;
     for (index, &byte) in rest.iter().enumerate() {
         if byte == ending {
@@ -79,7 +79,7 @@ fn take_number(rest: &mut &[u8], ending: u8) -> Option<u32> {
 }
 
 /// How many digits a number below 10,000,000 has.
-fn digits(number: usize) -> usize {
+pub fn digits(number: usize) -> usize {
     1 + usize::from(number > 9)
         + usize::from(number > 99)
         + usize::from(number > 999)
@@ -121,7 +121,7 @@ pub fn write(graph: &GraphBytes, text: &mut [u8]) -> usize {
     at
 }
 
-fn put(text: &mut [u8], at: &mut usize, bytes: &[u8]) {
+pub fn put(text: &mut [u8], at: &mut usize, bytes: &[u8]) {
     text[*at..*at + bytes.len()].copy_from_slice(bytes);
     *at += bytes.len();
 }
@@ -131,7 +131,7 @@ fn put_pair(text: &mut [u8], at: &mut usize, first: usize, second: usize) {
     put_number(text, at, second, b'\n');
 }
 
-fn put_number(text: &mut [u8], at: &mut usize, number: usize, ending: u8) {
+pub fn put_number(text: &mut [u8], at: &mut usize, number: usize, ending: u8) {
     let end = *at + digits(number);
     let mut left = number;
     for out in text[*at..end].iter_mut().rev() {

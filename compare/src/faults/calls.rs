@@ -4,8 +4,8 @@ use super::{Fault, Faulty, last_bad_value};
 use crate::generate::Lists;
 use crate::harness::check::level_bytes;
 use crate::interface::{
-    Answer, DecodeInput, Decoded, Decoder, GraphBytes, Lent, LentLengths, SheetCounts, f32_list,
-    i32_bytes, number_bytes, numbers,
+    Answer, BlocksBytes, DecodeInput, Decoded, Decoder, GraphBytes, Lent, LentLengths, SheetCounts,
+    f32_list, i32_bytes, number_bytes, numbers,
 };
 use crate::paper::{self, Limits, Outcome, Refusal, Sheet};
 
@@ -24,7 +24,7 @@ impl Faulty {
 
     /// A call of the paper on the list of degrees, and what is then wrong with its answer or
     /// the list. The number of variables is left out where only the call knows it.
-    fn on_degrees<T>(
+    pub fn on_degrees<T>(
         &self,
         bytes: &mut [u8],
         n: Option<usize>,
@@ -60,7 +60,7 @@ impl Faulty {
     }
 
     /// The list as a companion changes it.
-    fn companion_list<'a>(&self, list: &'a mut [u8], spare: &'a mut Vec<u8>) -> &'a mut [u8] {
+    pub fn companion_list<'a>(&self, list: &'a mut [u8], spare: &'a mut Vec<u8>) -> &'a mut [u8] {
         match self.has(Fault::DegreesLeftByCompanion) {
             true => {
                 spare.extend_from_slice(list);
@@ -100,11 +100,11 @@ impl Faulty {
     }
 }
 
-fn put(lent: &mut [u8], bytes: &[u8]) {
+pub fn put(lent: &mut [u8], bytes: &[u8]) {
     lent[..bytes.len()].copy_from_slice(bytes);
 }
 
-fn place<T>(answer: Result<T, Refusal>) -> usize {
+pub fn place<T>(answer: Result<T, Refusal>) -> usize {
     answer.err().map_or(0, |refusal| refusal.place)
 }
 
@@ -221,5 +221,37 @@ impl Decoder for Faulty {
         let spare = &mut Vec::new();
         let degrees = self.companion_list(degrees, spare);
         place(self.write(graph, degrees, text))
+    }
+    fn read_blocks(
+        &self,
+        text: &[u8],
+        degrees: &mut [u8],
+        starts: &mut [u8],
+        columns: &mut [u8],
+    ) -> Answer<SheetCounts> {
+        self.read_blocks_faulty(text, degrees, starts, columns)
+    }
+
+    fn read_blocks_place(
+        &self,
+        text: &[u8],
+        degrees: &mut [u8],
+        starts: usize,
+        columns: usize,
+    ) -> usize {
+        self.read_blocks_place_faulty(text, degrees, starts, columns)
+    }
+
+    fn write_blocks(
+        &self,
+        blocks: &BlocksBytes,
+        degrees: &mut [u8],
+        text: &mut [u8],
+    ) -> Answer<usize> {
+        self.write_blocks_faulty(blocks, degrees, text)
+    }
+
+    fn write_blocks_place(&self, blocks: &BlocksBytes, degrees: &mut [u8], text: usize) -> usize {
+        self.write_blocks_place_faulty(blocks, degrees, text)
     }
 }

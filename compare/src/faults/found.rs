@@ -5,12 +5,12 @@ use crate::fast::Fast;
 use crate::generate::cases::{self, Case};
 use crate::harness::check::check;
 use crate::harness::{self, Budget, Failure};
-use crate::interface::NUMBER_BYTES;
+use crate::interface::{ENTRY_BYTES, NUMBER_BYTES};
 use crate::random::Random;
 
-const SEED: u64 = 7;
+pub const SEED: u64 = 7;
 
-fn found(fault: Fault) -> Failure {
+pub fn found(fault: Fault) -> Failure {
     let series = harness::run(&Faulty(fault), SEED, Budget::Inputs(20_000));
     let failure = series.failure.unwrap_or_else(|| panic!("{fault:?} is not found"));
     println!("{fault:?}: {failure}");
@@ -47,6 +47,12 @@ fn nothing_in_the_fast_decoder() {
     }
     for number in [2, 3, 4, 5, 6, 7] {
         assert!(series.tally.contains_key(&("write", number)), "write {number}");
+    }
+    for number in [1, 2, 3, 4, 5, 6, 17] {
+        assert!(series.tally.contains_key(&("read blocks", number)), "read blocks {number}");
+    }
+    for number in [2, 3, 4, 5, 6, 17] {
+        assert!(series.tally.contains_key(&("write blocks", number)), "write blocks {number}");
     }
     assert!(series.iterations.contains_key(&255));
 }
@@ -136,7 +142,7 @@ fn faults_of_lifting() {
 #[test]
 fn twins_that_lift_one_sign() {
     let decoder = Faulty(Fault::PlusAloneLifted);
-    let inputs = (0..2_000).map(|input| cases::any(&mut Random::for_input(SEED, input)));
+    let inputs = (0..2_400).map(|input| cases::any(&mut Random::for_input(SEED, input)));
     let twins = inputs.filter(|case| matches!(case, Case::Twin(_)));
     let failures: Vec<String> = twins.filter_map(|case| check(&case, &decoder, 1).err()).collect();
     assert!(failures.len() >= 20, "{} twins fail", failures.len());
@@ -161,12 +167,15 @@ fn faults_of_liftings_bounds() {
 }
 
 /// What the harness says of each of these faults, which is shown by a small graph or sheet.
-fn messages<const COUNT: usize>(faults: [Fault; COUNT]) -> [String; COUNT] {
+pub fn messages<const COUNT: usize>(faults: [Fault; COUNT]) -> [String; COUNT] {
     faults.map(|fault| {
         let failure = found(fault);
         let entries = match &failure.case {
-            Case::Read(case) => case.text.iter().filter(|&&byte| byte == b'\n').count(),
+            Case::Read(case) | Case::ReadBlocks(case) => {
+                case.text.iter().filter(|&&byte| byte == b'\n').count()
+            }
             Case::Write(case) => case.columns.len() / NUMBER_BYTES,
+            Case::WriteBlocks(case) => case.entries.len() / ENTRY_BYTES,
             Case::Decode(_) | Case::Twin(_) => size(&failure).0,
         };
         assert!(entries <= 64, "{fault:?}");

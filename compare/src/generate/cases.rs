@@ -1,12 +1,16 @@
 //! Whole inputs of a call, made from the parts.
 
 use super::codewords::Codewords;
-use super::{Lists, damage, graphs, lifting, limits, orders, refusals, settings, texts};
+use super::{
+    Lists, block_limits, block_orders, blocks, damage, graphs, lifting, limits, orders, refusals,
+    settings, texts,
+};
 use crate::interface::{
     LentLengths, NEVER, NUMBER_BYTES, Settings, f32_bytes, f32_list, number_bytes, numbers,
 };
+use crate::paper::blocks::text_of;
 use crate::paper::run::check_settings;
-use crate::paper::{self, Graph, Limits, Outcome, Refusal};
+use crate::paper::{self, Blocks, Entry, Graph, Limits, Outcome, Refusal};
 use crate::random::Random;
 
 /// An input of decode.
@@ -43,7 +47,7 @@ impl DecodeCase {
     }
 }
 
-/// A sheet to read and the lengths of the lists lent for it.
+/// A sheet of either kind to read and the lengths of the lists lent for it.
 #[derive(Clone, Debug)]
 pub struct ReadCase {
     pub text: Vec<u8>,
@@ -62,6 +66,30 @@ pub struct WriteCase {
     pub text: usize,
 }
 
+/// The numbers of a block sheet to write and the lengths of the list and the text lent for it.
+#[derive(Clone, Debug)]
+pub struct WriteBlocksCase {
+    pub size: usize,
+    pub rows: usize,
+    pub columns: usize,
+    pub entries: Vec<u8>,
+    pub degrees: usize,
+    pub text: usize,
+}
+
+impl WriteBlocksCase {
+    /// The numbers, without a part of an entry at the end.
+    pub fn blocks(&self) -> Blocks {
+        let entry = |parts: &[u32]| Entry {
+            row: parts[0] as usize,
+            column: parts[1] as usize,
+            shift: parts[2] as usize,
+        };
+        let entries = numbers(&self.entries).chunks_exact(3).map(entry).collect();
+        Blocks { size: self.size, rows: self.rows, columns: self.columns, entries }
+    }
+}
+
 /// An accepted decode and a word whose ones say which values are negated in its twin.
 #[derive(Clone, Debug)]
 pub struct TwinCase {
@@ -75,6 +103,8 @@ pub enum Case {
     Read(ReadCase),
     Write(WriteCase),
     Twin(TwinCase),
+    ReadBlocks(ReadCase),
+    WriteBlocks(WriteBlocksCase),
 }
 
 /// An input of the program: its file, if there is one, and its standard input.
@@ -84,7 +114,8 @@ pub struct ProgramCase {
 }
 
 /// The inputs at the program's limits and one past them, every order of refusals around the
-/// list of degrees and of decode's others, and every admitted W; they are in every series.
+/// list of degrees and of decode's others, every admitted W, and block sheets by every pair of
+/// refusals and around every limit; they are in every series.
 pub fn at_small_limits(random: &mut Random) -> Vec<Case> {
     let mut cases = orders::cases();
     cases.extend(refusals::cases());
@@ -106,15 +137,19 @@ pub fn at_small_limits(random: &mut Random) -> Vec<Case> {
     }
     let lists = graphs::regular(random, 1_200, 3, 6);
     cases.push(Case::Twin(any_twin_of(random, &lists)));
+    cases.extend(block_orders::cases());
+    cases.extend(block_limits::cases());
     cases
 }
 
 pub fn any(random: &mut Random) -> Case {
-    match random.below(20) {
+    match random.below(24) {
         0..=10 => Case::Decode(any_decode(random)),
         11..=13 => Case::Twin(any_twin(random)),
         14..=17 => Case::Read(any_read(random)),
-        _ => Case::Write(any_write(random)),
+        18..=19 => Case::Write(any_write(random)),
+        20..=21 => Case::ReadBlocks(blocks::any_read(random)),
+        _ => Case::WriteBlocks(blocks::any_write(random)),
     }
 }
 
@@ -164,7 +199,7 @@ fn countable(n: usize) -> usize {
 }
 
 /// A length that is mostly enough: exact or longer, rarely one byte short or nothing.
-fn lent_length(random: &mut Random, needed: usize) -> usize {
+pub fn lent_length(random: &mut Random, needed: usize) -> usize {
     match random.below(100) {
         0 => needed.saturating_sub(1),
         1 => random.below(needed + 1),
@@ -175,7 +210,7 @@ fn lent_length(random: &mut Random, needed: usize) -> usize {
 
 /// The same for the list of degrees: exact, longer by parts of a number or by some, now and
 /// then one byte short, shorter or nothing. For very many variables it is too short.
-fn degrees_length(random: &mut Random, n: usize) -> usize {
+pub fn degrees_length(random: &mut Random, n: usize) -> usize {
     let needed = NUMBER_BYTES * n.min(70_000);
     match random.below(40) {
         0 => needed.saturating_sub(1),
@@ -283,6 +318,29 @@ fn any_twin_of(random: &mut Random, lists: &Lists) -> TwinCase {
 pub fn programs_at_limits() -> Vec<ProgramCase> {
     let case = |(code, run_text)| ProgramCase { code: Some(code), run_text };
     limits::programs().into_iter().map(case).collect()
+}
+
+/// The program's inputs with a block sheet for a sheet, whole and in parts: "never by `frame`".
+pub fn programs_of_blocks(random: &mut Random) -> Vec<ProgramCase> {
+    let mut programs = Vec::new();
+    for _ in 0..20 {
+        let blocks = blocks::any(random);
+        let settings = settings::good(random);
+        let values = settings::values(random, blocks.columns * blocks.size, 1.0);
+        let run_text = texts::run_text(&settings, &values);
+        programs.push(ProgramCase { code: Some(text_of(&blocks)), run_text });
+    }
+    let run_text = texts::run_text(&settings::good(random), &[1.0, -1.0]);
+    let mut more = |code: &[u8]| {
+        programs.push(ProgramCase { code: Some(code.to_vec()), run_text: run_text.clone() });
+    };
+    more(b"size rows columns\n1 1 2\nrow column shift\n0 0 0\n0 1 0\n");
+    more(b"size rows columns\n0 1 2\nrow column shift\n");
+    more(b"variables checks\n1 1 2\nrow column shift\n0 0 0\n0 1 0\n");
+    more(b"variables checks\n2 1\nrow column shift\n0 0 0\n0 1 0\n");
+    more(b"variables checks\n2 1\ncheck variable\n0 0 0\n0 1 0\n");
+    more(&[&b"size rows columns\n1 1 2\nrow column shift\n"[..], &vec![b'0'; 65_536]].concat());
+    programs
 }
 
 pub fn any_program(random: &mut Random) -> ProgramCase {

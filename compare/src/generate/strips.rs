@@ -74,6 +74,8 @@ fn damaged(random: &mut Random, number: usize) -> Case {
             Case::Write(case) => case.degrees -= 1,
             Case::Read(case) => case.degrees -= 1,
             Case::Twin(case) => case.decode.degrees -= 1,
+            Case::ReadBlocks(case) => case.degrees -= 1,
+            Case::WriteBlocks(case) => case.degrees -= 1,
         }
     }
     case

@@ -1,6 +1,7 @@
 //! One input given to a decoder and to the paper.
 
 use super::arena::{Arena, Part};
+use super::blocks::{check_write_blocks, read_as_ordinary};
 use super::series::Seen;
 use super::twins::check_twin;
 use crate::generate::cases::{Case, DecodeCase, ReadCase, WriteCase};
@@ -8,7 +9,7 @@ use crate::interface::{
     Answer, DecodeInput, Decoded, Decoder, GraphBytes, Lent, SheetCounts, f32_list, i32_bytes,
     number_bytes, numbers,
 };
-use crate::paper::{self, Graph, Level, Limits, Outcome, Refusal};
+use crate::paper::{self, Graph, Level, Limits, Outcome, Refusal, Sheet, blocks};
 use crate::random::Random;
 use std::fmt::Debug;
 
@@ -17,24 +18,26 @@ pub fn check(case: &Case, decoder: &dyn Decoder, fill: u64) -> Result<Seen, Stri
     let random = &mut Random::new(fill);
     match case {
         Case::Decode(case) => check_decode(case, decoder, random),
-        Case::Read(case) => check_read(case, decoder, random),
+        Case::Read(case) => check_read(Kind::Ordinary, case, decoder, random),
         Case::Write(case) => check_write(case, decoder, random),
         Case::Twin(case) => check_twin(case, decoder),
+        Case::ReadBlocks(case) => check_read(Kind::Blocks, case, decoder, random),
+        Case::WriteBlocks(case) => check_write_blocks(case, decoder, random),
     }
 }
 
 /// What a call and its companion are given and lent, each in an allocation of its own, and
 /// what they must leave there.
-struct Pair {
-    entry: Arena,
-    companion: Arena,
+pub struct Pair {
+    pub entry: Arena,
+    pub companion: Arena,
     entry_left: Vec<u8>,
     companion_left: Vec<u8>,
 }
 
 impl Pair {
     /// Both leave the list of degrees alike; the other lists are the call's.
-    fn new(arena: Arena, degrees: &[u32], lists: Vec<(&str, Vec<u8>)>) -> Pair {
+    pub fn new(arena: Arena, degrees: &[u32], lists: Vec<(&str, Vec<u8>)>) -> Pair {
         let degrees = vec![("degrees", number_bytes(degrees))];
         Pair {
             companion_left: arena.with(&degrees),
@@ -44,7 +47,7 @@ impl Pair {
         }
     }
 
-    fn compare(&self) -> Result<(), String> {
+    pub fn compare(&self) -> Result<(), String> {
         self.entry.compare(&self.entry_left)?;
         let after_companion = |difference| format!("after the companion, {difference}");
         self.companion.compare(&self.companion_left).map_err(after_companion)
@@ -119,7 +122,19 @@ fn decode_in(arena: &mut Arena, case: &DecodeCase, decoder: &dyn Decoder) -> Ans
     decoder.decode(&input, degrees, &mut lent)
 }
 
-fn check_read(case: &ReadCase, decoder: &dyn Decoder, random: &mut Random) -> Result<Seen, String> {
+/// The kinds of sheets.
+#[derive(Clone, Copy)]
+enum Kind {
+    Ordinary,
+    Blocks,
+}
+
+fn check_read(
+    kind: Kind,
+    case: &ReadCase,
+    decoder: &dyn Decoder,
+    random: &mut Random,
+) -> Result<Seen, String> {
     let arena = Arena::new(
         random,
         &[
@@ -130,8 +145,11 @@ fn check_read(case: &ReadCase, decoder: &dyn Decoder, random: &mut Random) -> Re
         ],
     );
     let degrees = &mut numbers(arena.part("degrees"));
-    let (starts, columns) = (case.starts, case.columns);
-    let expected = paper::read_sheet(Limits::LENT, &case.text, degrees, starts, columns);
+    let ReadCase { text, starts, columns, .. } = case;
+    let expected = match kind {
+        Kind::Ordinary => paper::read_sheet(Limits::LENT, text, degrees, *starts, *columns),
+        Kind::Blocks => blocks::read(Limits::LENT, text, degrees, *starts, *columns),
+    };
     let left = match &expected {
         Ok(sheet) => {
             vec![("starts", number_bytes(&sheet.starts)), ("columns", number_bytes(&sheet.columns))]
@@ -141,14 +159,28 @@ fn check_read(case: &ReadCase, decoder: &dyn Decoder, random: &mut Random) -> Re
     let mut pair = Pair::new(arena, degrees, left);
 
     let [starts, text, degrees, columns] = pair.entry.slices();
-    let answer = decoder.read_sheet(text, degrees, starts, columns);
+    let answer = match kind {
+        Kind::Ordinary => decoder.read_sheet(text, degrees, starts, columns),
+        Kind::Blocks => decoder.read_blocks(text, degrees, starts, columns),
+    };
     let [_, text, degrees] = pair.companion.slices();
-    let place = decoder.read_sheet_place(text, degrees, case.starts, case.columns);
+    let place = match kind {
+        Kind::Ordinary => decoder.read_sheet_place(text, degrees, case.starts, case.columns),
+        Kind::Blocks => decoder.read_blocks_place(text, degrees, case.starts, case.columns),
+    };
 
-    let numbers = expected.map(|sheet| SheetCounts { n: sheet.n, m: sheet.starts.len() - 1 });
+    let counts = |sheet: &Sheet| SheetCounts { n: sheet.n, m: sheet.starts.len() - 1 };
+    let numbers = expected.as_ref().map(counts).map_err(|refusal| *refusal);
     compare_answers(&numbers, &answer, place)?;
     pair.compare()?;
-    Ok(Seen { call: "read", refusal: number_of(&numbers), iterations: None })
+    let call = match kind {
+        Kind::Ordinary => "read",
+        Kind::Blocks => "read blocks",
+    };
+    if let (Kind::Blocks, Ok(sheet)) = (kind, &expected) {
+        read_as_ordinary(sheet, decoder)?;
+    }
+    Ok(Seen { call, refusal: number_of(&numbers), iterations: None })
 }
 
 fn check_write(
@@ -188,11 +220,11 @@ pub fn level_bytes(levels: &[Level]) -> Vec<u8> {
     levels.iter().map(|level| level.byte()).collect()
 }
 
-fn number_of<T>(expected: &Result<T, Refusal>) -> u8 {
+pub fn number_of<T>(expected: &Result<T, Refusal>) -> u8 {
     expected.as_ref().err().map_or(0, |refusal| refusal.number)
 }
 
-fn compare_answers<T: Copy + Debug + PartialEq>(
+pub fn compare_answers<T: Copy + Debug + PartialEq>(
     expected: &Result<T, Refusal>,
     answer: &Answer<T>,
     place: usize,

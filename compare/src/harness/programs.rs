@@ -54,7 +54,9 @@ pub fn run_programs(
 fn inputs(seed: u64) -> impl Iterator<Item = ProgramCase> {
     let random = move |input| cases::any_program(&mut Random::for_input(seed, input));
     let first = (0..INPUTS_BEFORE_LIMITS).map(random);
-    first.chain(cases::programs_at_limits()).chain((INPUTS_BEFORE_LIMITS..).map(random))
+    let of_blocks = cases::programs_of_blocks(&mut Random::new(seed));
+    let chosen = cases::programs_at_limits().into_iter().chain(of_blocks);
+    first.chain(chosen).chain((INPUTS_BEFORE_LIMITS..).map(random))
 }
 
 fn expected(case: &ProgramCase) -> Vec<u8> {

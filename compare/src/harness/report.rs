@@ -1,7 +1,7 @@
 //! Cases and series in words.
 
 use super::series::{Failure, Series};
-use crate::generate::cases::{Case, DecodeCase};
+use crate::generate::cases::{Case, DecodeCase, ReadCase, WriteBlocksCase};
 use crate::interface::{f32_list, numbers};
 use std::fmt::{self, Display, Formatter};
 
@@ -41,6 +41,30 @@ fn decode(case: &DecodeCase) -> String {
     text
 }
 
+fn read(case: &ReadCase) -> String {
+    format!(
+        "  text ({} bytes) \"{}\"\n  lent bytes {}, then {} {}\n",
+        case.text.len(),
+        case.text[..case.text.len().min(10 * SHOWN)].escape_ascii(),
+        case.degrees,
+        case.starts,
+        case.columns,
+    )
+}
+
+fn write_blocks(case: &WriteBlocksCase) -> String {
+    format!(
+        "  size {} rows {} columns {}\n  entries ({} bytes) {}\n  lent bytes {}, then {}\n",
+        case.size,
+        case.rows,
+        case.columns,
+        case.entries.len(),
+        listed(&numbers(&case.entries)),
+        case.degrees,
+        case.text,
+    )
+}
+
 /// The whole input, a line for each list.
 pub fn described(case: &Case) -> String {
     match case {
@@ -48,14 +72,9 @@ pub fn described(case: &Case) -> String {
         Case::Twin(case) => {
             format!("twin decodes\n{}  word {}\n", decode(&case.decode), listed(&case.word))
         }
-        Case::Read(case) => format!(
-            "read a sheet\n  text ({} bytes) \"{}\"\n  lent bytes {}, then {} {}\n",
-            case.text.len(),
-            case.text[..case.text.len().min(10 * SHOWN)].escape_ascii(),
-            case.degrees,
-            case.starts,
-            case.columns,
-        ),
+        Case::Read(case) => format!("read a sheet\n{}", read(case)),
+        Case::ReadBlocks(case) => format!("read a block sheet\n{}", read(case)),
+        Case::WriteBlocks(case) => format!("write a block sheet\n{}", write_blocks(case)),
         Case::Write(case) => format!(
             "write a sheet\n{}  lent bytes {}, then {}\n",
             graph(case.n, &case.starts, &case.columns),

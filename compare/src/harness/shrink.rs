@@ -1,5 +1,7 @@
 //! A failing input made smaller for as long as it still fails.
 
+mod blocks;
+
 use crate::generate::Lists;
 use crate::generate::cases::{Case, DecodeCase, WriteCase};
 use crate::generate::graphs::without_idle_variables;
@@ -40,11 +42,12 @@ enum Dimension {
     Columns,
     Values,
     Buffers,
+    Blocks(blocks::Dimension),
     Lines,
     Bytes,
 }
 
-const DIMENSIONS: [Dimension; 9] = [
+const DIMENSIONS: [Dimension; 13] = [
     Dimension::Settings,
     Dimension::Checks,
     Dimension::Variables,
@@ -52,6 +55,10 @@ const DIMENSIONS: [Dimension; 9] = [
     Dimension::Columns,
     Dimension::Values,
     Dimension::Buffers,
+    Dimension::Blocks(blocks::Dimension::Rows),
+    Dimension::Blocks(blocks::Dimension::Columns),
+    Dimension::Blocks(blocks::Dimension::Entries),
+    Dimension::Blocks(blocks::Dimension::Numbers),
     Dimension::Lines,
     Dimension::Bytes,
 ];
@@ -122,6 +129,7 @@ fn extent(case: &Case, dimension: Dimension) -> usize {
         Dimension::Settings => plainer_settings(case).len(),
         Dimension::Values => values_of(case).len(),
         Dimension::Buffers => 2,
+        Dimension::Blocks(dimension) => blocks::extent(case, dimension),
         Dimension::Starts => lists.map_or(0, |lists| lists.starts.len()),
         Dimension::Columns => lists.map_or(0, |lists| lists.columns.len()),
         Dimension::Checks => lists.filter(has_rows).map_or(0, |lists| lists.starts.len() - 1),
@@ -137,6 +145,7 @@ fn cut(case: &Case, dimension: Dimension, part: Range<usize>) -> Option<Case> {
         Dimension::Settings => Some(with_settings(case, plainer_settings(case)[part.start])),
         Dimension::Values => with_plainer_values(case, part),
         Dimension::Buffers => with_exact_buffers(case, part),
+        Dimension::Blocks(dimension) => blocks::cut(case, dimension, part),
         Dimension::Starts => {
             let lists = lists_of(case)?;
             let starts = without(&lists.starts, &part);
@@ -171,7 +180,7 @@ fn decode_of(case: &Case) -> Option<&DecodeCase> {
     match case {
         Case::Decode(case) => Some(case),
         Case::Twin(case) => Some(&case.decode),
-        Case::Read(_) | Case::Write(_) => None,
+        _ => None,
     }
 }
 
@@ -180,14 +189,14 @@ fn with_decode(case: &Case, change: impl Fn(&mut DecodeCase)) -> Case {
     match &mut case {
         Case::Decode(decode) => change(decode),
         Case::Twin(twin) => change(&mut twin.decode),
-        Case::Read(_) | Case::Write(_) => {}
+        _ => {}
     }
     case
 }
 
 fn text_of(case: &Case) -> &[u8] {
     match case {
-        Case::Read(case) => &case.text,
+        Case::Read(case) | Case::ReadBlocks(case) => &case.text,
         _ => &[],
     }
 }
@@ -198,7 +207,7 @@ fn lines_of(case: &Case) -> Vec<Vec<u8>> {
 
 fn with_text(case: &Case, text: Vec<u8>) -> Case {
     let mut case = case.clone();
-    if let Case::Read(read) = &mut case {
+    if let Case::Read(read) | Case::ReadBlocks(read) = &mut case {
         read.text = text;
     }
     case
@@ -255,7 +264,7 @@ fn on_lists(case: &Case, lists: &Lists, kept: Option<&[usize]>) -> Case {
             write.degrees = moved(write.degrees, exact_degrees(write.n), exact_degrees(lists.n));
             (write.n, write.starts, write.columns) = (lists.n, starts, columns);
         }
-        Case::Decode(_) | Case::Read(_) => {}
+        _ => {}
     }
     case
 }

@@ -2,13 +2,14 @@
 
 use super::graph::{Graph, check_graph};
 use super::limits::Limits;
-use super::text::{Text, decimal, words};
+use super::text::{Text, decimals};
 use super::{Refusal, refuse};
 use crate::interface::NUMBER_BYTES;
 
 const COUNTS_HEADER: &[u8] = b"variables checks";
 const ENTRIES_HEADER: &[u8] = b"check variable";
-const LINES_BEFORE_ENTRIES: usize = 3;
+/// Of a block sheet too.
+pub const LINES_BEFORE_ENTRIES: usize = 3;
 
 /// The graph that a sheet describes.
 #[derive(Clone, Debug, PartialEq, Eq)]
@@ -21,6 +22,15 @@ pub struct Sheet {
 impl Sheet {
     pub fn graph(&self) -> Graph<'_> {
         Graph { n: self.n, starts: &self.starts, columns: &self.columns }
+    }
+
+    /// 6 for the two lent lists, whose lengths are in bytes.
+    pub fn check_room(&self, starts_lent: usize, columns_lent: usize) -> Result<(), Refusal> {
+        let too_short = |lent: usize, list: &[u32]| lent < NUMBER_BYTES * list.len();
+        match too_short(starts_lent, &self.starts) || too_short(columns_lent, &self.columns) {
+            true => refuse(6, 0),
+            false => Ok(()),
+        }
     }
 }
 
@@ -39,31 +49,21 @@ pub fn read_sheet(
     check_header(&text, 3, ENTRIES_HEADER)?;
     let sheet = graph_of(n, m, &entries(limits, &text, n, m)?);
     check_graph(limits, &sheet.graph(), degrees)?;
-    let too_short = |lent: usize, list: &[u32]| lent < NUMBER_BYTES * list.len();
-    if too_short(starts_lent, &sheet.starts) || too_short(columns_lent, &sheet.columns) {
-        return refuse(6, 0);
-    }
+    sheet.check_room(starts_lent, columns_lent)?;
     Ok(sheet)
 }
 
-fn check_header(text: &Text, line: usize, header: &[u8]) -> Result<(), Refusal> {
+pub fn check_header(text: &Text, line: usize, header: &[u8]) -> Result<(), Refusal> {
     match text.line(line) {
         Some(found) if found == header => Ok(()),
         _ => refuse(1, line),
     }
 }
 
-fn two_numbers(line: &[u8]) -> Option<(usize, usize)> {
-    match words(line)[..] {
-        [first, second] => Some((decimal(first)?, decimal(second)?)),
-        _ => None,
-    }
-}
-
 fn counts(limits: Limits, text: &Text, line: usize) -> Result<(usize, usize), Refusal> {
-    match text.line(line).and_then(two_numbers) {
+    match text.line(line).and_then(decimals) {
         None => refuse(1, line),
-        Some((n, m)) if limits.admit_variables(n) && limits.admit_checks(m) => Ok((n, m)),
+        Some([n, m]) if limits.admit_variables(n) && limits.admit_checks(m) => Ok((n, m)),
         Some(_) => refuse(2, line),
     }
 }
@@ -80,7 +80,7 @@ fn entries(
         if entries.len() == limits.entries {
             return refuse(2, line);
         }
-        let Some((check, variable)) = text.line(line).and_then(two_numbers) else {
+        let Some([check, variable]) = text.line(line).and_then(decimals) else {
             return refuse(1, line);
         };
         if check >= m || variable >= n {
@@ -94,7 +94,8 @@ fn entries(
     Ok(entries)
 }
 
-fn graph_of(n: usize, m: usize, entries: &[(usize, usize)]) -> Sheet {
+/// The graph of these ones, which are in order.
+pub fn graph_of(n: usize, m: usize, entries: &[(usize, usize)]) -> Sheet {
     let entries_before = |check: usize| entries.partition_point(|entry| entry.0 < check);
     Sheet {
         n,
@@ -126,7 +127,7 @@ pub fn write_sheet(
     Ok(text)
 }
 
-fn push_line(text: &mut Vec<u8>, line: &[u8]) {
+pub fn push_line(text: &mut Vec<u8>, line: &[u8]) {
     text.extend_from_slice(line);
     text.push(b'\n');
 }

@@ -44,6 +44,16 @@ pub fn decimal(word: &[u8]) -> Option<usize> {
     of_form.then(|| word.iter().fold(0, append))
 }
 
+/// The numbers of a line that has so many and nothing else.
+pub fn decimals<const COUNT: usize>(line: &[u8]) -> Option<[usize; COUNT]> {
+    let mut words = line.split(|&byte| byte == b' ');
+    let mut numbers = [0; COUNT];
+    for number in &mut numbers {
+        *number = decimal(words.next()?)?;
+    }
+    words.next().is_none().then_some(numbers)
+}
+
 /// "Eight lowercase hexadecimal digits of f32 bits."
 pub fn f32_of_digits(word: &[u8]) -> Option<f32> {
     if word.len() != 8 {

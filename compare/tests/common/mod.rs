@@ -1,6 +1,8 @@
 //! Small functions for the tests that are worked out from the paper by hand.
 #![allow(dead_code)]
 
+pub mod blocks;
+
 use compare::interface::{LARGEST_LIFT, LentLengths, NEVER, Settings};
 use compare::paper::{Graph, Level, Limits, Outcome, Refusal, decode};
 

@@ -1,3 +1,4 @@
 pub mod Smallness
 pub mod SheetAnswers
 pub mod Places
+pub mod BlockAnswers

@@ -106,6 +106,7 @@ number-small (R.Length p) = refl
 number-small (R.RunText p) = refl
 number-small (R.Bit p) = refl
 number-small R.Lifting = refl
+number-small (R.Shift p) = refl
 
 -- the lowest byte of the answer is the number
 number-packed : (F : Frame) (j : Judged) → packDecoded (decoded F j) % 256 ≡ numberOf j

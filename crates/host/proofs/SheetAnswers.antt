@@ -4,12 +4,13 @@ use mathlib.Core.List.{List}
 use Prim.Native.Nat.{ℕ, suc, _*_}
 use native.Mathlib.Omega.{arith}
 use lib.ListN.{length, drop}
+use Rattle.rules.specs.Graphs as Graphs
 use Rattle.rules.specs.Graphs.{Graph, limits}
 use Rattle.rules.specs.declared.Judged.{Judged}
 use Rattle.rules.specs.declared.Judged.the-variants.{Admitted, Refused}
-use Rattle.words.specs.Roles.{wide}
+use Rattle.words.specs.Roles.{wide, startAt}
 use Rattle.words.proofs.Words.{at-table}
-use Rattle.sheet.specs.Reading.{Reading, turned, graph, sheetReadIn, answerOf, ReadInto, JudgedInto}
+use Rattle.sheet.specs.Reading.{Reading, turned, graph, sheetReadIn, answerOf, startsOf, ReadInto, JudgedInto}
 use Rattle.sheet.specs.declared.Sheet.{Sheet}
 use Rattle.sheet.proofs.Texts.{texts-and-graphs}
 use Rattle.sheet_writer.specs.Writing.{writeFinds, writeAnswer, JudgesWrite, WritesInto}
@@ -28,10 +29,12 @@ read-small t d s c = go (sheetReadIn limits t d s c) refl
     go (graph G) e = let a = texts-and-graphs .accepted limits t d s c G e .0 in (a .variables .1, a .checks .1)
 
 -- .. whose starts end at E
-pub last-start : LastStart
-last-start t d s c G e old =
-    let a = texts-and-graphs .accepted limits t d s c G e .0 in
+pub starts-end : (G : Graph) → Graphs.Admitted G → (old : List ℕ) → startAt (startsOf (graph G) old) (G .checks) ≡ G .entries
+starts-end G a old =
     at-table wide (G .start) (suc (G .checks)) (drop (wide * suc (G .checks)) old) (G .checks) (omega arith) (omega (arith, a .ends, a .entries)) ∙ a .ends
+
+pub last-start : LastStart
+last-start t d s c G e old = starts-end G (texts-and-graphs .accepted limits t d s c G e .0) old
 
 -- the text of an admitted graph is short
 pub written-small : (G : Graph) (d room : ℕ) → SmallWritten (writeAnswer (writeFinds G d room) G)

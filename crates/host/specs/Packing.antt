@@ -128,7 +128,7 @@ abbrev pub SmallRead : Sheet → Type 0
 SmallRead (Reads.Refused r) = 0 ≤ 0
 SmallRead (Reads.Read k) = (k .variables ≤ limits .variables) × (k .checks ≤ limits .checks)
 
--- As SheetsShort has it.
+-- As SheetsShort and BlocksShort have it.
 abbrev pub SmallWritten : Written → Type 0
 SmallWritten (Writes.Refused r) = 0 ≤ 0
-SmallWritten (Writes.Length size) = size ≤ 48 + 14 * limits .entries
+SmallWritten (Writes.Length size) = size ≤ 59 + 21 * limits .entries

@@ -3,7 +3,9 @@ ghost use mathlib.Core.Path.{_≡_};
 ghost use lib.ListN.{length};
 ghost use Rattle.words.specs.Roles.{graphOf};
 ghost use Rattle.sheet_writer.specs.Writing.{writeFinds};
+ghost use Rattle.block_writer.specs.Writing.{blocksGiven};
 ghost use Rattle.host.specs.Packing.{placeOf, packRead, packWritten, HostReads, HostWrites, TellsPlace, TellsLine, SmallRead, SmallWritten};
+ghost use Rattle.host.specs.Blocks.{HostReadsBlocks, TellsBlocksLine, HostWritesBlocks, TellsBlocksPlace};
 use sheet::Sheet;
 use sheet_writer::Written;
 
@@ -90,5 +92,67 @@ pub extern "C" fn frame_write_sheet_place(
     ensures { λ r. ⌜ TellsPlace (graphOf n (now (starts .entry)) (now (columns .entry))) (placeOf (writeFinds (graphOf n (now (starts .entry)) (now (columns .entry))) (length (now (degrees .entry))) text)) (now (degrees .entry)) (now (degrees .exit)) r ⌝ }
 {
     let j = sheet_writer::judge_write(n, starts, columns, degrees, text);
+    crate::place_of(j)
+}
+
+// ---- block sheets
+
+// Reads a block sheet into the lists of its expansion.
+#[no_mangle]
+pub extern "C" fn frame_read_blocks(
+    text: &[u8],
+    degrees: &mut [u8],
+    starts: &mut [u8],
+    columns: &mut [u8],
+) -> u64
+    ensures { λ r. ⌜ HostReadsBlocks (now (text .entry)) (now (degrees .entry)) (now (degrees .exit)) (now (starts .entry)) (now (starts .exit)) (now (columns .entry)) (now (columns .exit)) r ⌝ }
+{
+    let s = block_sheet::read(text, degrees, starts, columns);
+    pack_read(s)
+}
+
+// The place of what `frame_read_blocks` refuses for lists of these lengths, 0 where it refuses nothing.
+#[no_mangle]
+pub extern "C" fn frame_read_blocks_place(
+    text: &[u8],
+    degrees: &mut [u8],
+    starts: usize,
+    columns: usize,
+) -> usize
+    ensures { λ r. ⌜ TellsBlocksLine (now (text .entry)) (now (degrees .entry)) (now (degrees .exit)) starts columns r ⌝ }
+{
+    let j = block_sheet::judge_read(text, degrees, starts, columns);
+    crate::place_of(j)
+}
+
+// Writes the block sheet of a size, counts and entries.
+#[no_mangle]
+pub extern "C" fn frame_write_blocks(
+    size: usize,
+    rows: usize,
+    columns: usize,
+    entries: &[u8],
+    degrees: &mut [u8],
+    text: &mut [u8],
+) -> u64
+    ensures { λ r. ⌜ HostWritesBlocks (blocksGiven size rows columns (now (entries .entry))) (now (degrees .entry)) (now (degrees .exit)) (now (text .entry)) (now (text .exit)) r ⌝ }
+{
+    let w = block_writer::write(size, rows, columns, entries, degrees, text);
+    pack_written(w)
+}
+
+// The place of what `frame_write_blocks` refuses for a text of this length, 0 where it refuses nothing.
+#[no_mangle]
+pub extern "C" fn frame_write_blocks_place(
+    size: usize,
+    rows: usize,
+    columns: usize,
+    entries: &[u8],
+    degrees: &mut [u8],
+    text: usize,
+) -> usize
+    ensures { λ r. ⌜ TellsBlocksPlace (blocksGiven size rows columns (now (entries .entry))) (now (degrees .entry)) (now (degrees .exit)) text r ⌝ }
+{
+    let j = block_writer::judge_write(size, rows, columns, entries, degrees, text);
     crate::place_of(j)
 }

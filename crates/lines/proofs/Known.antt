@@ -17,7 +17,7 @@ use Rattle.lines.proofs.Places.{here, digit-low, line-first, line-secon
 other-not : {A : Type 0} {a : A} {t : List ℕ} → other ≡ value a t → ⊥
 other-not {A} {a} {t} h = let z : _≡_ {A = ℕ} 0 1 = cc in absurd (omega arith)
 
-value-is : {A : Type 0} {a b : A} {t u : List ℕ} → value a t ≡ value b u → (a ≡ b) × (t ≡ u)
+pub value-is : {A : Type 0} {a b : A} {t u : List ℕ} → value a t ≡ value b u → (a ≡ b) × (t ≡ u)
 value-is h = (cc, cc)
 
 -- what is left of a number whose digits so far make v, with the byte x after it

@@ -3,3 +3,4 @@ pub mod Lines
 pub mod Places
 pub mod Putting
 pub mod Known
+pub mod Triples

@@ -20,7 +20,7 @@ pub field-decimal : (x k : ℕ) (t : List ℕ) → digit x ≡ false → field x
 unfolding field
 field-decimal x k t h = rw (number-decimal k x t h, eq-eqb x x refl)
 
-field-text : (x w : ℕ) (t r : List ℕ) → field x t ≡ value w r → t ≡ decimal w ++ (x ∷ r)
+pub field-text : (x w : ℕ) (t r : List ℕ) → field x t ≡ value w r → t ≡ decimal w ++ (x ∷ r)
 unfolding field
 field-text x w t r e = go (number t) refl e
   where

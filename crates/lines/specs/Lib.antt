@@ -3,3 +3,4 @@ pub mod Numbers
 pub mod Lines
 pub mod Places
 pub mod Putting
+pub mod Triples

@@ -1,4 +1,4 @@
-// Decimal numbers, lines of two numbers and fixed texts at a place of a text: read, and put.
+// Decimal numbers, lines of two and of three numbers and fixed texts at a place of a text: read, and put.
 ghost use mathlib.Core.Path.{_≡_};
 ghost use mathlib.Core.List.{[], _∷_, _++_};
 ghost use Prim.Native.Nat.{_+_, _-_, _*_, _%_, _<_, _≤_, min};
@@ -6,6 +6,7 @@ ghost use lib.ListN.{length, drop};
 ghost use Rattle.lines.specs.Numbers.{number, more, frontDigit, decimal};
 ghost use Rattle.lines.specs.Lines.{field, line};
 ghost use Rattle.lines.specs.Places.{cap, NumberRead, NumberAt, Known, LineRead, LineAt, KnownLine, FixedAt};
+ghost use Rattle.lines.specs.Triples.{tripleLine, TripleRead, TripleAt, KnownTriple};
 ghost use Rattle.lines.specs.Putting.{Put, lastThree};
 
 // A number and the place after it. A number above every limit is given as CAP.
@@ -20,6 +21,17 @@ pub enum Line {
     Two {
         first: usize,
         second: usize,
+        next: usize,
+    },
+}
+
+// The three numbers of a line, and the place after it.
+pub enum Three {
+    Other,
+    Numbers {
+        first: usize,
+        second: usize,
+        third: usize,
         next: usize,
     },
 }
@@ -171,6 +183,35 @@ pub fn line_at(s: &[u8], at: usize) -> Line
     }
 }
 
+// The line of three numbers at a place.
+pub fn three_at(s: &[u8], at: usize) -> Three
+    ensures { λ r. ⌜ TripleAt (now (s .entry)) at r ⌝ }
+{
+    let a = field_at(s, at, b' ');
+    let Number::Value {
+        value: first,
+        next: i,
+    } = a
+    else {
+        return Three::Other;
+    };
+    let b = line_at(s, i);
+    let Line::Two {
+        first: second,
+        second: third,
+        next,
+    } = b
+    else {
+        return Three::Other;
+    };
+    Three::Numbers {
+        first,
+        second,
+        third,
+        next,
+    }
+}
+
 // A number and the place after it, where one is known to stand.
 pub struct Found {
     pub value: usize,
@@ -233,6 +274,29 @@ pub fn known_line_at(s: &[u8], at: usize) -> FoundLine
     FoundLine {
         first: a.value,
         second: b.value,
+        next: b.next,
+    }
+}
+
+// The three numbers of a line and the place after it, where one is known to stand.
+pub struct FoundThree {
+    pub first: usize,
+    pub second: usize,
+    pub third: usize,
+    pub next: usize,
+}
+
+// The line of three numbers at a place, in a text that was judged before.
+pub fn known_three_at(s: &[u8], at: usize) -> FoundThree
+    requires { ⌜ KnownTriple (now s) at ⌝ }
+    ensures { λ r. ⌜ TripleRead (tripleLine (drop at (now (s .entry)))) (now (s .entry)) at (r .first) (r .second) (r .third) (r .next) ⌝ }
+{
+    let a = known_field_at(s, at, b' ');
+    let b = known_line_at(s, a.next);
+    FoundThree {
+        first: a.value,
+        second: b.first,
+        third: b.second,
         next: b.next,
     }
 }

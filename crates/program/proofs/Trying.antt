@@ -16,7 +16,8 @@ use Rattle.channel.specs.Quantiser.{wholesBelow, levelFor}
 use Rattle.decoder.specs.Decoding.{frameJudged}
 use Rattle.lines.specs.Numbers.{digits, decimal, more, number}
 use Rattle.lines.specs.Lines.{lineText, field, line, fixed}
-use Rattle.sheet_text.specs.Reading.{rows, sheetLines, startIn, columnIn}
+use Rattle.listing.specs.Reading.{rows, sheetLines}
+use Rattle.sheet_text.specs.Reading.{startIn, columnIn}
 use Rattle.sheet.specs.Reading.{sheetRead}
 use Rattle.run_text.specs.Texts.{hexDigit, hexDigits, pattern, setting, titles, scaling, settings, settingsLine}
 use Rattle.run_text.specs.Reading.{valueLines, runLines, runText}

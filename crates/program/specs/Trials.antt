@@ -43,6 +43,8 @@ trials =
     -- the order: an oversized file, the sheet's, an oversized run text, its lines, decode's
     ∷ prints (many 65537) (many 65537) "refusal place\n2 0\n"
     ∷ prints [] (many 65537) "refusal place\n1 1\n"
+    -- 'a block sheet, read by a call of its own and never by `frame`'
+    ∷ prints (ascii "size rows columns\n3 1 2\nrow column shift\n0 0 1\n0 1 2\n") [] "refusal place\n1 1\n"
     ∷ prints sheet (many 65537) "refusal place\n14 0\n"
     ∷ prints sheet [] "refusal place\n14 1\n"
     ∷ prints sheet (plain "3f800000 3 3 1 1 0 256\nvalue\n40200000\nbf000000\n") "refusal place\n14 6\n"

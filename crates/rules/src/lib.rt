@@ -54,6 +54,7 @@ pub enum Refusal {
     RunText(usize),
     Bit(usize),
     Lifting,
+    Shift(usize),
 }
 
 // The paper's number of a refusal, and its place.
@@ -101,6 +102,7 @@ impl Refusal {
                 number: 16,
                 place: 0,
             },
+            Refusal::Shift(place) => Numbered { number: 17, place },
         }
     }
 }

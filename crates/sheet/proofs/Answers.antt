@@ -8,8 +8,9 @@ use Rattle.words.specs.Words.{bytes, table}
 use Rattle.graph.specs.Judging.{checkDegreesJudged, variableDegreesJudged}
 use Rattle.lines.specs.Numbers.{digits, decimal, more, number}
 use Rattle.lines.specs.Lines.{lineText, linesText, field, line, fixed}
+use Rattle.listing.specs.Reading.{rows, sheetLines}
 use Rattle.sheet_text.specs.Texts.{sheetOf, rowEntries, entriesOf, sheetText}
-use Rattle.sheet_text.specs.Reading.{rows, sheetLines, startIn, columnIn}
+use Rattle.sheet_text.specs.Reading.{startIn, columnIn}
 use Rattle.sheet.specs.Reading.{sheetReadIn}
 use Rattle.sheet.specs.Trials.{trials, told, writtenAs, passes, TrialsPass}
 

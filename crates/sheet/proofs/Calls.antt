@@ -1,6 +1,6 @@
 -- The whole call: from the lines of a sheet under limits to what follows them; and a list of degrees that is long enough.
 use mathlib.Core.Path.{_≡_, refl, sym, ap, _∙_, subst}
-use mathlib.Core.List.{List, []}
+use mathlib.Core.List.{List}
 use Prim.Native.Nat.{ℕ, _*_, _≤_}
 use native.Mathlib.Omega.{arith}
 use borrow.Author.Tests.{le-leb}
@@ -12,10 +12,12 @@ use Rattle.rules.specs.declared.Judged.the-variants as Judgement
 use Rattle.graph.specs.Judging.{checkDegreesJudged, variableDegreesJudged}
 use Rattle.graph.proofs.Wider.{program-wider}
 use Rattle.lines.specs.Lines.{pair}
-use Rattle.sheet_text.specs.Reading.{Lines, refused, lines, rows, sheetLines}
+use Rattle.listing.proofs.Sheets.{rows-enough}
+use Rattle.sheet_text.specs.Reading.{Lines, refused, lines, sheetEntries, sheetLines}
 use Rattle.sheet_text.specs.Scanning.{counted, within, largestCounts, UpTo, LinesAt}
 use Rattle.sheet_text.specs.declared.Counts.{Counts}
-use Rattle.sheet_text.proofs.Sheets.{rows-read, rows-told, sheet-told, counts-told}
+use Rattle.sheet_text.proofs.Order.{Fits}
+use Rattle.sheet_text.proofs.Sheets.{readable, judging, counts-told, sheet-told}
 use Rattle.sheet_text.proofs.Wider.{lines-alike}
 use Rattle.sheet.specs.Reading.{Reading, afterLines, afterLinesIn, unlessRefused, readJudged, readLines, sheetRead, sheetReadIn, degreesIn, degreesOf, answerOf, startsOf, columnsOf, ReadAs, ReadInto, JudgedInto}
 use Rattle.sheet.specs.Storing.{linesGraph, linesFrom, graphFrom, EntriesAt, AfterLines, Finished}
@@ -47,15 +49,11 @@ same-degrees most G d s c = refl
 
 module _ {most : Counts} (u : UpTo most limits) {t : List ℕ} {k : Counts} {at : ℕ} (h : LinesAt (within most) t (sheetLines (within most) t) k at) where
   from-here : linesFrom t k at ≡ lines (counted k) (h .entries)
-  from-here =
-      let w = rows-told (counted k) (most .entries) 4 (pair 0 0) [] (drop at t) (counted k) (h .entries) (h .rest) in
-      ap (rows (counted k) (k .entries) 4 (pair 0 0) []) (w .text)
-      ∙ rows-read (counted k) (w .entries) (k .entries) 4 (pair 0 0) [] (w .rising) (omega (arith, h .many, ap length (w .all)))
-      ∙ ap (lines (counted k)) (sym (w .all))
+  from-here = rows-enough sheetEntries readable Fits judging (counted k) (most .entries) (k .entries) 4 (pair 0 0) (drop at t) (h .entries) (h .rest) (omega (arith, h .many))
 
   pub entries-at : EntriesAt t k at
   entries-at =
-      let told = sheet-told t (counted k) (h .entries) (h .are) .1 in
+      let told = sheet-told (within most) t (counted k) (h .entries) (h .are) .1 in
       let n = counts-told (within most) (counted k) (told .counts) in
       record {
         entries = h .entries;
@@ -122,7 +120,7 @@ same-reading L t d s c l = go (sheetLines L t) refl
 
 -- a list for the most variables that L allows
 pub most-enough : (L : Limits) (t : List ℕ) {d : ℕ} → 4 * L .variables ≤ d → LongEnough L t d
-most-enough L t l k ps e = omega (arith, counts-told L k (sheet-told t k ps e .1 .counts) .0 .1)
+most-enough L t l k ps e = omega (arith, counts-told L k (sheet-told L t k ps e .1 .counts) .0 .1)
 
 pub sheets-as-before : SheetsAsBefore
 unfolding sheetRead sheetReadIn checkDegreesJudged variableDegreesJudged

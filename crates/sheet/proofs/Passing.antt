@@ -21,26 +21,22 @@ use Rattle.sheet.specs.Passing.{At, Pass}
 
 -- the entries rise
 pub entries-rising : {s : List ℕ} {k : Counts} {from : ℕ} (h : EntriesAt s k from) → Rising (counted k) (pair 0 0) (h .entries)
-entries-rising {s} {k} {from} h =
-    let w = rows-told (counted k) (k .entries) 4 (pair 0 0) [] (drop from s) (counted k) (h .entries) (h .are) in
-    subst (Rising (counted k) (pair 0 0)) (sym (w .all)) (w .rising)
+entries-rising {s} {k} {from} h = rows-told (counted k) (k .entries) 4 (pair 0 0) (drop from s) (counted k) (h .entries) (h .are) .1
 
 pub pass-none : {s : List ℕ} {k : Counts} {from filled : ℕ} (h : EntriesAt s k from) → filled ≤ 1 → At (counted k) (h .entries) s from 0 filled
 unfolding startIn
-pass-none {s} {k} {from} {filled} h l =
-    let w = rows-told (counted k) (k .entries) 4 (pair 0 0) [] (drop from s) (counted k) (h .entries) (h .are) in
-    record {
-      done = [];
-      rest = h .entries;
-      low = pair 0 0;
-      all = refl;
-      text = w .text ∙ ap linesText (sym (w .all));
-      got = refl;
-      rising = entries-rising h;
-      near = omega arith;
-      high = omega arith;
-      past = λ d l. refl;
-    }
+pass-none {s} {k} {from} {filled} h l = record {
+  done = [];
+  rest = h .entries;
+  low = pair 0 0;
+  all = refl;
+  text = rows-told (counted k) (k .entries) 4 (pair 0 0) (drop from s) (counted k) (h .entries) (h .are) .0;
+  got = refl;
+  rising = entries-rising h;
+  near = omega arith;
+  high = omega arith;
+  past = λ d l. refl;
+}
 
 -- the next of the lines that are left
 left-lines : (rest : List Pair) (u : List ℕ) → u ≡ linesText rest → 0 < length rest → (p : Pair) × (tail : List Pair) × (rest ≡ p ∷ tail) × (line u ≡ value p (linesText tail))

@@ -27,13 +27,13 @@ use Rattle.sheet.specs.Reading.{turned, graph, roomFor, roomForDegrees, 
 use Rattle.sheet.specs.Theorems.{Same, Suffice, TextsAndGraphs}
 use Rattle.sheet.proofs.Degrees.{same-check-degree, same-check-degrees, same-variable-degrees, sheet-admitted}
 
-turned-not : {r : Refusal} {G : Graph} → turned r ≡ graph G → ⊥
+pub turned-not : {r : Refusal} {G : Graph} → turned r ≡ graph G → ⊥
 turned-not {r} {G} e = let z : _≡_ {A = ℕ} 0 1 = cc in absurd (omega arith)
 
 -- ---- a text that is accepted
 
 -- the buffers suffice where none is refused
-suffice : (L : Limits) (G : Graph) (d s c : ℕ) → afterLinesIn L G d s c ≡ Judgement.Admitted → Suffice G d s c
+pub suffice : (L : Limits) (G : Graph) (d s c : ℕ) → afterLinesIn L G d s c ≡ Judgement.Admitted → Suffice G d s c
 suffice L G d s c h =
     let a = leb (wide * suc (G .checks)) s in
     let b = leb (wide * G .entries) c in
@@ -55,7 +55,7 @@ accepted L t d s c G e = go (sheetLines L t) refl e
     end k ps x (Judgement.Refused r) p q = absurd (turned-not q)
     end k ps x Judgement.Admitted p q =
         let H : Graph = graphIn k ps in
-        let told = sheet-told t k ps x in
+        let told = sheet-told L t k ps x in
         let degrees = orElse-left (degreesJudged L H) (unless (roomFor H s c) Buffer) (orElse-right (unless (roomForDegrees H d) Buffer) (afterLines L H s c) p) in
         let a = sheet-admitted k ps (told .1) (orElse-left (checkDegreesJudged L H) (variableDegreesJudged L H) degrees)
         (orElse-right (checkDegreesJudged L H) (variableDegreesJudged L H) degrees) in
@@ -75,7 +75,7 @@ module _ (L : Limits) (G : Graph) (a : AdmittedWithin L G) where
 
   lines-back : sheetLines L (sheetText G) ≡ lines counts (entriesOf G)
   unfolding sheetText
-  lines-back = sheet-read counts (entriesOf G) (entries-lined G a)
+  lines-back = sheet-read L counts (entriesOf G) (entries-lined G a)
 
   same-back : Same (graphIn counts (entriesOf G)) G
   same-back = record {

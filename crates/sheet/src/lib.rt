@@ -23,7 +23,7 @@ pub enum Sheet {
 }
 
 // Makes x every row start from place a to before place b.
-fn fill(starts: &mut [u8], a: usize, b: usize, x: usize)
+pub fn fill(starts: &mut [u8], a: usize, b: usize, x: usize)
     requires { ⌜ (a ≤ b) × (wide * b ≤ length (now starts)) × (x < 256 ^ wide) ⌝ }
     ensures { λ _. ⌜ ((f : ℕ → ℕ) (old : List ℕ) → Filled wide f old (now (starts .entry)) a → ((i : ℕ) → a ≤ i → i < b → x ≡ f i) → Filled wide f old (now (starts .exit)) b) ⌝ }
 {
@@ -57,10 +57,10 @@ fn store(text: &[u8], at: usize, counts: Counts, starts: &mut [u8], columns: &mu
 // ---- 5
 
 // Where the entries' lines are read up to check `check`: the lowest check below it that is refused, else `check`; and its first entry.
-struct Rows {
-    low: usize,
-    check: usize,
-    first: usize,
+pub struct Rows {
+    pub low: usize,
+    pub check: usize,
+    pub first: usize,
 }
 
 // The lowest check that is refused, where check i has d entries, `low` is the lowest below it, and check i + 1 has none.
@@ -78,7 +78,7 @@ fn lowest(low: usize, i: usize, d: usize) -> usize
 }
 
 // Goes on to entry k, which is of check c.
-fn go_on(rows: Rows, c: usize, k: usize) -> Rows
+pub fn go_on(rows: Rows, c: usize, k: usize) -> Rows
     requires { ⌜ (rows .check ≤ c) × (c ≤ limits .checks) × (rows .first ≤ k) ⌝ }
     ensures { λ r. ⌜ GoesOn rows c k r ⌝ }
 {

@@ -1,7 +1,7 @@
 -- Entries in order: what the tests of an entry mean.
 use mathlib.Core.Path.{_≡_, refl}
 use mathlib.Core.Bool.{Bool, true, false, _&&_, _||_}
-use mathlib.Core.List.{List, [], _∷_}
+use mathlib.Core.List.{List}
 use Prim.Native.Nat.{ℕ, _≤_, _<_}
 use native.Mathlib.Omega.{arith}
 use borrow.Author.Tests.{lt-ltb, le-leb, eq-eqb, ltb-true, ltb-false, leb-true, eqb-true}
@@ -11,7 +11,8 @@ use Rattle.rules.specs.declared.Refusal.the-variants.{Range, Order}
 use Rattle.rules.specs.declared.Judged.the-variants.{Admitted}
 use Rattle.rules.proofs.Judging.{orElse-left, orElse-right, unless-true, and-left, and-right, and-both}
 use Rattle.lines.specs.Lines.{Pair}
-use Rattle.sheet_text.specs.Reading.{notBefore, after, entryJudged}
+use Rattle.listing.specs.Order as Listing
+use Rattle.sheet_text.specs.Reading.{notBefore, entryJudged, sheetEntries}
 
 -- p may stand at the place `low` of a sheet with the counts c
 pub record Fits (c low p : Pair) : Type 0 where
@@ -22,8 +23,7 @@ pub record Fits (c low p : Pair) : Type 0 where
 
 -- entries in order, the first not before `low`
 abbrev pub Rising : Pair → Pair → List Pair → Type 0
-Rising c low [] = Unit
-Rising c low (p ∷ ps) = Fits c low p × Rising c (after p) ps
+Rising c low ps = Listing.Rising sheetEntries Fits c low ps
 
 not-before : (low p : Pair) → low .first ≤ p .first → (low .first ≡ p .first → low .second ≤ p .second) → notBefore low p ≡ true
 not-before low p h s = go (ltb (low .first) (p .first)) refl

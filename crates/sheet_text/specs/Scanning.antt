@@ -1,11 +1,11 @@
 -- What the first pass owes: the lines as `sheetLines` has them.
 use mathlib.Core.Path.{_≡_}
-use mathlib.Core.List.{List, []}
+use mathlib.Core.List.{List}
 use Prim.Native.Nat.{ℕ, _≤_}
-use lib.ListN.{length, drop}
 use Rattle.rules.specs.Graphs.{Limits, limits}
 use Rattle.lines.specs.Lines.{Pair, pair}
-use Rattle.sheet_text.specs.Reading.{Lines, refused, lines, rows}
+use Rattle.listing.specs.Scanning as Listing
+use Rattle.sheet_text.specs.Reading.{Lines, refused, sheetEntries}
 use Rattle.sheet_text.specs.declared.Counts.{Counts}
 use Rattle.sheet_text.specs.declared.Scanned.{Scanned}
 use Rattle.sheet_text.specs.declared.Scanned.the-variants as Scans
@@ -34,11 +34,8 @@ pub record UpTo (k : Counts) (L : Limits) : Type 0 where
   pub entries : k .entries ≤ L .entries
 
 -- The lines x of the text s have these counts, and the entries' lines begin at `at`.
-pub record LinesAt (L : Limits) (s : List ℕ) (x : Lines) (k : Counts) (at : ℕ) : Type 0 where
-  pub entries : List Pair
-  pub are : x ≡ lines (counted k) entries
-  pub many : length entries ≡ k .entries
-  pub rest : rows (counted k) (L .entries) 4 (pair 0 0) [] (drop at s) ≡ lines (counted k) entries
+abbrev pub LinesAt : Limits → List ℕ → Lines → Counts → ℕ → Type 0
+LinesAt L s x k at = Listing.LinesAt sheetEntries (L .entries) s x (counted k) (k .entries) at
 
 abbrev pub ScannedAs : Limits → List ℕ → Lines → Scanned → Type 0
 ScannedAs L s x (Scans.Refused r) = x ≡ refused r

@@ -36,14 +36,14 @@ fn counts_fit(most: Counts, n: usize, m: usize) -> bool
 }
 
 // Whether the entry c v is of the graph.
-fn in_range(n: usize, m: usize, c: usize, v: usize) -> bool
+pub fn in_range(n: usize, m: usize, c: usize, v: usize) -> bool
     ensures { λ r. ⌜ r ≡ ltb c m && ltb v n ⌝ }
 {
     (c < m) & (v < n)
 }
 
 // Whether the entry c v does not stand before the place c0 w0.
-fn not_before(c0: usize, w0: usize, c: usize, v: usize) -> bool
+pub fn not_before(c0: usize, w0: usize, c: usize, v: usize) -> bool
     ensures { λ r. ⌜ r ≡ notBefore (pair c0 w0) (pair c v) ⌝ }
 {
     (c0 < c) | ((c0 == c) & (w0 <= v))

@@ -25,11 +25,11 @@ digits-more k w d ih h = go (ltb k 10) refl
     go true e = omega (arith, one-digit k (ltb-true k 10 e))
     go false e = let l : 10 ≤ k = ltb-false k 10 e in omega (arith, more-digits k l, ih (omega arith))
 
-digits-within : (d k : ℕ) → k < 10 * 10 ^ d → length (decimal k) ≤ d + 1
+pub digits-within : (d k : ℕ) → k < 10 * 10 ^ d → length (decimal k) ≤ d + 1
 digits-within zero k h = omega (arith, one-digit k (omega (arith, pow-zero 10)))
 digits-within (suc d) k h = omega (arith, digits-more k (10 * 10 ^ d) (d + 1) (digits-within d (k / 10)) (omega (arith, pow-suc 10 d)))
 
-line-short : (d a b : ℕ) → a < 10 * 10 ^ d → b < 10 * 10 ^ d → length (lineText (pair a b)) ≤ 2 * d + 4
+pub line-short : (d a b : ℕ) → a < 10 * 10 ^ d → b < 10 * 10 ^ d → length (lineText (pair a b)) ≤ 2 * d + 4
 line-short d a b h k = omega (arith, line-long a b, digits-within d a h, digits-within d b k)
 
 -- lines one after the other

@@ -36,7 +36,7 @@ fn count_digits(k: usize) -> usize
 }
 
 // How many digits a number has. The numbers of a sheet seldom need a division.
-fn digits(k: usize) -> usize
+pub fn digits(k: usize) -> usize
     ensures { λ r. ⌜ (r ≡ length (decimal k)) × (r ≤ 20) ⌝ }
 {
     if k < 10 {
@@ -61,7 +61,7 @@ fn digits(k: usize) -> usize
 }
 
 // The length of a line of two numbers.
-fn line_length(a: usize, b: usize) -> usize
+pub fn line_length(a: usize, b: usize) -> usize
     ensures { λ r. ⌜ (r ≡ length (lineText (pair a b))) × (r ≤ 42) ⌝ }
 {
     digits(a) + 1 + digits(b) + 1
@@ -131,7 +131,7 @@ pub fn judge_write(
 // ---- the text
 
 // Puts a line of two numbers.
-fn put_line(text: &mut [u8], at: usize, a: usize, b: usize) -> usize
+pub fn put_line(text: &mut [u8], at: usize, a: usize, b: usize) -> usize
     requires { ⌜ at + length (lineText (pair a b)) ≤ length (now text) ⌝ }
     ensures { λ r. ⌜ Put (lineText (pair a b)) (now (text .entry)) (now (text .exit)) at r ⌝ }
 {

@@ -8,7 +8,7 @@ use native.Mathlib.Nat.{add-zero, mul-zero, mul-suc, pow-suc, pow-succ', mul-ass
 use native.Mathlib.Numerals.{add-one}
 use native.Mathlib.Omega.{arith}
 use lib.ListN.{length, getD, set, take, drop, length-set, length-append, length-drop, take-append-drop, List·getD-append}
-use lib.Seq.{length-take-le, append-snoc, set-at, getD-at, getD-set-other, getD-append-add, drop-drop, drop-cons, take-add}
+use lib.Seq.{length-take-le, append-snoc, set-at, getD-at, getD-set-other, getD-append-add, drop-set-lt, drop-drop, drop-cons, take-add}
 use Rattle.rules.specs.Ranges.{joined}
 use Rattle.rules.proofs.Ranges.{joined-none, joined-ext, length-joined}
 use Rattle.words.specs.Words.{word, stored, bytes, table}
@@ -109,6 +109,16 @@ word-other w b i x j n = word-apart w b (w * i) x w (w * j) (go (decLt j i))
     go : Dec (j < i) → (w * j + w ≤ w * i) ⊎ (w * i + w ≤ w * j)
     go (yes l) = inl (omega (arith, mul-suc w j, mul-le-mul-left {m = suc j} {n = i} w l))
     go (no l) = inr (omega (arith, mul-suc w i, mul-le-mul-left {m = suc i} {n = j} w (omega arith)))
+
+-- the bytes after a stored number
+drop-after : (w : ℕ) (b : List ℕ) (k x m : ℕ) → k + w ≤ m → drop m (stored w b k x) ≡ drop m b
+unfolding stored
+drop-after zero b k x m l = refl
+drop-after (suc w) b k x m l = drop-after w (set b k (x % 256)) (suc k) (x / 256) m (omega arith) ∙ drop-set-lt m b k (x % 256) (omega arith)
+
+-- a store to an element before place n leaves the list from there on
+pub drop-stored : (w : ℕ) (b : List ℕ) (i x n : ℕ) → i < n → drop (w * n) (stored w b (w * i) x) ≡ drop (w * n) b
+drop-stored w b i x n l = drop-after w b (w * i) x (w * n) (omega (arith, mul-suc w i, mul-le-mul-left {m = suc i} {n = n} w l))
 
 -- ---- tables
 

@@ -1,18 +1,19 @@
 use mathlib.Core.Path.{_≡_, sym, ap, ap₂, _∙_, subst}
-use mathlib.Core.Bool.{true}
 use mathlib.Core.List.{List, []}
 use Prim.Native.Nat.{ℕ, _≤_, _<_}
 use native.Mathlib.Omega.{arith}
 use borrow.Author.Tests.{not-true, not-false}
 use lib.ListN.{drop}
 use Rattle.rules.specs.Graphs.{Limits}
+use Rattle.rules.specs.declared.Judged.the-variants.{Admitted}
 use Rattle.lines.specs.Lines.{Pair, pair, line, fixed}
 use Rattle.lines.specs.Places.{cap, FixedRead, FixedAt, LineRead, LineAt}
+use Rattle.listing.proofs.Passes.{no-heading, no-counts, bad-counts, no-titles, to-entries}
 use Rattle.sheet_text.specs.Texts.{heading, titles}
-use Rattle.sheet_text.specs.Reading.{Lines, countsFit, rows}
+use Rattle.sheet_text.specs.Reading.{Lines, countsFit, sheetLayout, rows}
 use Rattle.sheet_text.specs.Scanning.{within, ScannedAs}
 use Rattle.sheet_text.specs.declared.Counts.{Counts}
-use Rattle.sheet_text.proofs.Passes.{capped-counts, no-heading, no-counts, bad-counts, no-titles, to-entries}
+use Rattle.sheet_text.proofs.Passes.{capped-counts}
 use Rattle.sheet_text.proofs.Sheets.{counts-told}
 use borrow.Author.Needs.{needs}
 use Rattle.sheet_text.proofs.scan.Statement.{statement}
@@ -48,8 +49,8 @@ counts-are c =
     let r = counts-read (c .before .before) in
     sym (c .counts-fit .ensures ∙ capped-counts (L (c .before .before .before .before .before .before)) (low (c .before .before .before .before .before .before) .0) (low (c .before .before .before .before .before .before) .1) (r .pair) (c .before .before .second .given .0 .0) (c .before .before .second .given .0 .1 .0) (r .first) (r .second))
 
-fit : (c : tie.Else1) → countsFit (L (c .before .before .before .before .before .before .before)) (counts-read (c .before .before .before) .pair) ≡ true
-fit c = counts-are (c .before) ∙ not-false _ (c .if1 .left)
+fit : (c : tie.Else1) → sheetLayout (L (c .before .before .before .before .before .before .before)) .countsJudged (counts-read (c .before .before .before) .pair) ≡ Admitted
+fit c = rw (counts-are (c .before), not-false (c .before .counts-fit .result) (c .if1 .left))
 
 small : (c : tie.Else1) → (c .before .before .before .second .given .0 .0 ≤ L (c .before .before .before .before .before .before .before) .variables) × (c .before .before .before .second .given .0 .1 .0 ≤ L (c .before .before .before .before .before .before .before) .checks)
 small c =
@@ -84,7 +85,7 @@ enum-told : tie.Need-enum-told
 enum-told c = search needs
 
 returns : tie.Need-returns
-returns c = no-heading (within (c .before .before .before .before .before .args .most)) (c .before .before .before .before .before .args .text .now) (subst (FixedAt heading (c .before .before .before .before .before .args .text .now) 0) (c .enum-told .given .1) (c .before .before .fixed-at .ensures))
+returns c = no-heading (sheetLayout (within (c .before .before .before .before .before .args .most))) (c .before .before .before .before .before .args .text .now) (subst (FixedAt heading (c .before .before .before .before .before .args .text .now) 0) (c .enum-told .given .1) (c .before .before .fixed-at .ensures))
 
 line-at-requires : tie.Need-line-at-requires
 line-at-requires c κs = search needs
@@ -97,14 +98,14 @@ enum-told-2 c = search needs
 
 returns-2 : tie.Need-returns-2
 returns-2 c =
-    no-counts (L (c .before .before .before .before)) (text (c .before .before .before .before)) (heading-read (c .before .before .before .before) .reads)
+    no-counts (sheetLayout (L (c .before .before .before .before))) (text (c .before .before .before .before)) (heading-read (c .before .before .before .before) .reads)
     (subst (LineAt (text (c .before .before .before .before)) (c .before .before .before .before .first .given .0 .0)) (c .enum-told2 .given .1) (c .before .before .line-at .ensures))
 
 counts-fit-requires : tie.Need-counts-fit-requires
 counts-fit-requires c κs = search needs
 
 returns-3 : tie.Need-returns-3
-returns-3 c = bad-counts (L (c .before .before .before .before .before .before .before)) (text (c .before .before .before .before .before .before .before)) (heading-read (c .before .before .before .before .before .before .before) .reads) (counts-read (c .before .before .before) .reads) (counts-are (c .before) ∙ not-true _ (c .if1 .taken))
+returns-3 c = bad-counts (sheetLayout (L (c .before .before .before .before .before .before .before))) (text (c .before .before .before .before .before .before .before)) (heading-read (c .before .before .before .before .before .before .before) .reads) (counts-read (c .before .before .before) .reads) (rw (counts-are (c .before), not-true (c .before .counts-fit .result) (c .if1 .taken)))
 
 slice-aggregate-fixed-at-2 : tie.Need-slice-aggregate-fixed-at-2
 slice-aggregate-fixed-at-2 c = search needs
@@ -120,7 +121,7 @@ enum-told-3 c = search needs
 
 returns-4 : tie.Need-returns-4
 returns-4 c =
-    no-titles (L (c .before .before .before .before .before .before .before .before .before .before .before)) (text (c .before .before .before .before .before .before .before .before .before .before .before)) (heading-read (c .before .before .before .before .before .before .before .before .before .before .before) .reads) (counts-read (c .before .before .before .before .before .before .before) .reads) (fit (c .before .before .before .before))
+    no-titles (sheetLayout (L (c .before .before .before .before .before .before .before .before .before .before .before))) (text (c .before .before .before .before .before .before .before .before .before .before .before)) (heading-read (c .before .before .before .before .before .before .before .before .before .before .before) .reads) (counts-read (c .before .before .before .before .before .before .before) .reads) (fit (c .before .before .before .before))
     (subst (FixedAt titles (text (c .before .before .before .before .before .before .before .before .before .before .before)) (c .before .before .before .before .before .before .before .second .given .0 .1 .1 .0)) (c .enum-told3 .given .1) (c .before .before .fixed-at2 .ensures))
 
 scan-entries-requires : tie.Need-scan-entries-requires
@@ -130,7 +131,7 @@ returns-5 : tie.Need-returns-5
 returns-5 c =
     let k = c .before .before .before .before .before .before .before .before .before .second .given .0 in
     subst (λ (x : Lines). ScannedAs (L (c .before .before .before .before .before .before .before .before .before .before .before .before .before)) (text (c .before .before .before .before .before .before .before .before .before .before .before .before .before)) x (c .scan-entries .result))
-    (sym (to-entries (L (c .before .before .before .before .before .before .before .before .before .before .before .before .before)) (text (c .before .before .before .before .before .before .before .before .before .before .before .before .before)) (heading-read (c .before .before .before .before .before .before .before .before .before .before .before .before .before) .reads) (counts-read (c .before .before .before .before .before .before .before .before .before) .reads) (fit (c .before .before .before .before .before .before)) (titles-read (c .before .before) .reads)
+    (sym (to-entries (sheetLayout (L (c .before .before .before .before .before .before .before .before .before .before .before .before .before))) (text (c .before .before .before .before .before .before .before .before .before .before .before .before .before)) (heading-read (c .before .before .before .before .before .before .before .before .before .before .before .before .before) .reads) (counts-read (c .before .before .before .before .before .before .before .before .before) .reads) (fit (c .before .before .before .before .before .before)) (titles-read (c .before .before) .reads)
     ∙ ap (λ (p : Pair). rows p (L (c .before .before .before .before .before .before .before .before .before .before .before .before .before) .entries) 4 (pair 0 0) [] (drop (c .before .before .third .given .0 .0) (text (c .before .before .before .before .before .before .before .before .before .before .before .before .before)))) (exact (c .before .before .before .before .before .before))))
     (c .scan-entries .ensures)
 

@@ -5,18 +5,20 @@ use borrow.Author.Needs.{needs}
 use lib.ListN.{length}
 use Rattle.lines.specs.Lines.{pair}
 use Rattle.lines.specs.Places.{LineAt}
-use Rattle.sheet_text.proofs.Passes.{Scanning, scanning-none, scanning-end, scanning-many, scanning-other, scanning-refused, scanning-more, capped-entry, after-capped}
+use Rattle.listing.proofs.Passes.{Scanning, scanning-none, scanning-end, scanning-many, scanning-other, scanning-refused, scanning-more}
+use Rattle.sheet_text.specs.Reading.{sheetEntries}
+use Rattle.sheet_text.proofs.Passes.{capped-entry, after-capped}
 use Rattle.sheet_text.proofs.scan_entries.Statement.{statement}
 use Rattle.sheet_text.proofs.scan_entries.Tie as tie
 
 abbrev Inv-loop : tie.InvT-loop
-Inv-loop most text from n m at₀ k₀ c0₀ w0₀ at k c0 w0 = (k ≤ most .entries) × Scanning (most .entries) (pair n m) text from at k (pair c0 w0)
+Inv-loop most text from n m at₀ k₀ c0₀ w0₀ at k c0 w0 = (k ≤ most .entries) × Scanning sheetEntries (most .entries) (pair n m) text from at k (pair c0 w0)
 
 abbrev μ-loop : tie.MeasureT-loop
 μ-loop most text from n m at₀ k₀ c0₀ w0₀ at k c0 w0 = length text - at
 
 loop-holds : tie.Need-loop-holds Inv-loop μ-loop
-loop-holds c = (omega arith, scanning-none (c .before .args .most .entries) (pair (c .before .args .n) (c .before .args .m)) (c .before .args .text .now) (c .before .args .from) (c .before .pre .1 .0))
+loop-holds c = (omega arith, scanning-none sheetEntries (c .before .args .most .entries) (pair (c .before .args .n) (c .before .args .m)) (c .before .args .text .now) (c .before .args .from) (c .before .pre .1 .0))
 
 add-t19 : tie.Need-add-t19 Inv-loop μ-loop
 add-t19 c = omega (arith, c .before .before .before .before .before .pre .0 .entries)
@@ -77,7 +79,7 @@ loop-again c =
     let low = pair (c .before .before .before .before .before .before .before .before .before .before .loop .c0) (c .before .before .before .before .before .before .before .before .before .before .loop .w0) in
     let judged = sym (capped-entry (pair (c .before .before .before .before .before .before .before .before .before .before .before .before .args .n) (c .before .before .before .before .before .before .before .before .before .before .before .before .args .m)) (pair (c .before .before .before .before .before .before .before .before .before .before .loop .c0) (c .before .before .before .before .before .before .before .before .before .before .loop .w0)) (c .before .before .before .before .before .before .before .before .before .before .loop .k + 4) (r .pair) (c .before .before .before .before .line .given .0 .0) (c .before .before .before .before .line .given .0 .1 .0) (omega (arith, c .before .before .before .before .before .before .before .before .before .before .before .before .pre .0 .variables)) (omega (arith, c .before .before .before .before .before .before .before .before .before .before .before .before .pre .0 .checks)) (r .first) (r .second)) ∙ sym (c .before .before .judge-entry .ensures) ∙ c .enum-told2 .given .1 in (
       omega arith,
-      subst (Scanning (c .before .before .before .before .before .before .before .before .before .before .before .before .args .most .entries) counts (c .before .before .before .before .before .before .before .before .before .before .before .before .args .text .now) (c .before .before .before .before .before .before .before .before .before .before .before .before .args .from) (c .before .before .before .before .line .given .0 .1 .1 .0) (c .before .before .before .before .before .before .before .before .before .before .loop .k + 1))
+      subst (Scanning sheetEntries (c .before .before .before .before .before .before .before .before .before .before .before .before .args .most .entries) counts (c .before .before .before .before .before .before .before .before .before .before .before .before .args .text .now) (c .before .before .before .before .before .before .before .before .before .before .before .before .args .from) (c .before .before .before .before .line .given .0 .1 .1 .0) (c .before .before .before .before .before .before .before .before .before .before .loop .k + 1))
           (after-capped counts low (c .before .before .before .before .before .before .before .before .before .before .loop .k + 4) (r .pair) (c .before .before .before .before .line .given .0 .0) (c .before .before .before .before .line .given .0 .1 .0) (omega (arith, c .before .before .before .before .before .before .before .before .before .before .before .before .pre .0 .variables)) (omega (arith, c .before .before .before .before .before .before .before .before .before .before .before .before .pre .0 .checks)) (r .first) (r .second) judged)
           (scanning-more (c .before .before .before .before .before .before .before .before .before .before .loop .inv .1) (omega arith) (omega arith) (r .pair) (c .before .before .before .before .line .given .0 .1 .1 .0) (r .reads) (r .within) judged),
     )

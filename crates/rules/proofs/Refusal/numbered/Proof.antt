@@ -50,6 +50,9 @@ enum-known-self-10 c = search needs
 enum-told-6 : tie.Need-enum-told-6
 enum-told-6 c = search needs
 
+enum-known-self-11 : tie.Need-enum-known-self-11
+enum-known-self-11 c = search needs
+
 returns : tie.Need-returns
 returns c = rw (c .before .self .given .1)
 
@@ -98,6 +101,9 @@ returns-15 c = rw (c .before .self10 .given .1)
 returns-16 : tie.Need-returns-16
 returns-16 c = rw (c .enum-told6 .given .1)
 
+returns-17 : tie.Need-returns-17
+returns-17 c = rw (c .before .self11 .given .1)
+
 pub numbered-spec : {M : Type 1} → statement M
 numbered-spec =
     tie.close
@@ -118,6 +124,7 @@ numbered-spec =
     enum-known-self-9
     enum-known-self-10
     enum-told-6
+    enum-known-self-11
     returns
     returns-2
     returns-3
@@ -133,4 +140,5 @@ numbered-spec =
     returns-13
     returns-14
     returns-15
-    returns-16)
+    returns-16
+    returns-17)

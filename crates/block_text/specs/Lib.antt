@@ -1,0 +1,5 @@
+pub mod Blocks
+pub mod Expansion
+pub mod Reading
+pub mod Scanning
+pub mod Theorems

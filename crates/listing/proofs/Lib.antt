@@ -1,0 +1,5 @@
+pub mod Order
+pub mod Sheets
+pub mod Passes
+pub mod Wider
+pub mod Walking
