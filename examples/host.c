@@ -1,6 +1,7 @@
 /* Reads document 01's example sheet, decodes the example and three inputs near it on the lists that it gave, then a frame that stalls and
-   the same frame with lifting, and writes the sheet back, as a scanner's host would. Then a sheet that is refused, with its line. Last a
-   block sheet: its graph row by row, the same sheet written from its numbers, and one that is refused. */
+   the same frame with lifting, and writes the sheet back, as a scanner's host would. Then a sheet that is refused, with its line. Then a
+   block sheet: its graph row by row, the same sheet written from its numbers, and one that is refused. Last, as a film writer would, codewords
+   that hold given bits, one of them decoded after noise, and bits that no codeword holds. */
 #include <stdio.h>
 #include <string.h>
 
@@ -35,6 +36,18 @@ static const char block_sheet[] = "size rows columns\n3 1 2\nrow column shift\n0
 static const char too_far[] = "size rows columns\n3 1 2\nrow column shift\n0 0 3\n0 1 2\n";
 /* Row, column and shift of each block. */
 static const uint8_t blocks[] = {0, 0, 0, 0, 0, 0, 0, 0, 1, 0, 0, 0, 0, 0, 0, 0, 1, 0, 0, 0, 2, 0, 0, 0};
+
+/* The code of 7 bits in which 4 may be chosen: check 0 has variables 0, 2, 4 and 6, check 1 has 1, 2, 5 and 6, check 2 has 3 to 6. */
+enum { CODE_VARIABLES = 7, CODE_CHECKS = 3, CODE_ENTRIES = 12, WORK = CODE_CHECKS * (CODE_VARIABLES / 8 + 1) };
+static const uint8_t code_starts[] = {0, 0, 0, 0, 4, 0, 0, 0, 8, 0, 0, 0, 12, 0, 0, 0};
+static const uint8_t code_columns[] = {0, 0, 0, 0, 2, 0, 0, 0, 4, 0, 0, 0, 6, 0, 0, 0, 1, 0, 0, 0, 2, 0, 0, 0,
+                                       5, 0, 0, 0, 6, 0, 0, 0, 3, 0, 0, 0, 4, 0, 0, 0, 5, 0, 0, 0, 6, 0, 0, 0};
+
+/* Positions are 2 bytes each, with a byte for each one's bit. Four bits settle the other three; of the codewords with bit 2 set the one comes
+   that has 0 at the first place where they differ; the four of check 0 cannot be 1, 0, 0, 0; and 2 is no bit. */
+static const uint8_t chosen[] = {2, 0, 4, 0, 5, 0, 6, 0}, chosen_bits[] = {1, 0, 1, 1};
+static const uint8_t lone[] = {2, 0}, lone_bit[] = {1};
+static const uint8_t whole[] = {0, 0, 2, 0, 4, 0, 6, 0}, odd_bits[] = {1, 0, 0, 0}, no_bits[] = {1, 0, 2, 0};
 
 static void refused(uint64_t answer, size_t place)
 {
@@ -141,8 +154,58 @@ static void write_blocks(void)
     fwrite(text, 1, frame_text_length(answer), stdout);
 }
 
+/* Whether there is a codeword; it is printed, or the refusal. */
+static int encode(const uint8_t *positions, size_t positions_length, const uint8_t *given, size_t given_length,
+                  uint8_t codeword[CODE_VARIABLES])
+{
+    uint8_t degrees[4 * CODE_VARIABLES], work[WORK];
+
+    uint64_t answer = frame_encode(CODE_VARIABLES, code_starts, sizeof code_starts, code_columns, sizeof code_columns, positions,
+                                   positions_length, given, given_length, degrees, sizeof degrees, codeword, CODE_VARIABLES, work,
+                                   sizeof work);
+    if (frame_refusal(answer) != 0) {
+        refused(answer, frame_encode_place(CODE_VARIABLES, code_starts, sizeof code_starts, code_columns, sizeof code_columns, positions,
+                                           positions_length, given, given_length, degrees, sizeof degrees));
+        return 0;
+    }
+    printf("encoded\n");
+    for (int v = 0; v < CODE_VARIABLES; v++) {
+        putchar('0' + codeword[v]);
+    }
+    putchar('\n');
+    return 1;
+}
+
+/* A codeword written as 2.5 for 0 and -2.5 for 1, read back with the last value as 0.5, which is its wrong sign, decoded and compared. */
+static void write_and_read(const uint8_t codeword[CODE_VARIABLES])
+{
+    uint8_t degrees[4 * CODE_VARIABLES], values[4 * CODE_VARIABLES] = {0}, levels[CODE_VARIABLES], variable_messages[CODE_ENTRIES],
+        check_messages[CODE_ENTRIES], sums[4 * CODE_VARIABLES], bits[CODE_VARIABLES];
+
+    for (size_t v = 0; v < CODE_VARIABLES; v++) {
+        values[4 * v + 2] = 0x20;
+        values[4 * v + 3] = codeword[v] ? 0xc0 : 0x40;
+    }
+    values[4 * CODE_VARIABLES - 2] = 0;
+    values[4 * CODE_VARIABLES - 1] = 0x3f;
+    uint64_t answer = frame_decode(CODE_VARIABLES, code_starts, sizeof code_starts, code_columns, sizeof code_columns, values, sizeof values,
+                                   FRAME_PLAIN, 1.0f, 0.0f, 3, 3, 1, 1, 0, 5, FRAME_NEVER, 15, degrees, sizeof degrees, levels,
+                                   sizeof levels, variable_messages, sizeof variable_messages, check_messages, sizeof check_messages, sums,
+                                   sizeof sums, bits, sizeof bits);
+    if (frame_refusal(answer) != 0) {
+        refused(answer, frame_decode_place(CODE_VARIABLES, code_starts, sizeof code_starts, code_columns, sizeof code_columns, values,
+                                           sizeof values, frame_refusal(answer), degrees, sizeof degrees));
+        return;
+    }
+    int same = memcmp(bits, codeword, CODE_VARIABLES) == 0;
+    printf("verdict iterations unsatisfied\n%s %u %u\n%s\n", frame_is_codeword(answer) ? "codeword" : "stopped",
+           frame_iterations(answer), frame_unsatisfied(answer), same ? "the codeword that was written" : "other bits");
+}
+
 int main(void)
 {
+    uint8_t codeword[CODE_VARIABLES];
+
     read_sheet(sheet);
     decode(example, 5);
     decode(negated, 5);
@@ -155,5 +218,11 @@ int main(void)
     read_blocks(block_sheet);
     write_blocks();
     read_blocks(too_far);
+    if (encode(chosen, sizeof chosen, chosen_bits, sizeof chosen_bits, codeword)) {
+        write_and_read(codeword);
+    }
+    encode(lone, sizeof lone, lone_bit, sizeof lone_bit, codeword);
+    encode(whole, sizeof whole, odd_bits, sizeof odd_bits, codeword);
+    encode(whole, sizeof whole, no_bits, sizeof no_bits, codeword);
     return 0;
 }

@@ -1,6 +1,7 @@
-/* How much stack each call of the library takes, on a graph of 1,000,000 variables and checks and 4,000,000 entries, and on a block sheet of
-   as many: the call is made on a stack that is painted before it, and what is no longer painted after it is counted. Prints a line for each call, with what frame.h says
-   it takes at most; the status is 1 where a call takes more. */
+/* How much stack each call of the library takes, on a graph of 1,000,000 variables and checks and 4,000,000 entries, on a block sheet of
+   as many and, where a codeword is asked for, on a graph of 2,048 variables and 512 checks: the call is made on a stack that is painted
+   before it, and what is no longer painted after it is counted. Prints a line for each call, with what frame.h says it takes at most; the
+   status is 1 where a call takes more. Link with -z now, so that no call waits for the loader. */
 #include "frame.h"
 
 #include <pthread.h>
@@ -19,6 +20,11 @@ static uint64_t answer;
 /* Every block of four rows and four columns, each shifted in its own way. */
 enum { SIZE = 250000, ROWS = 4, COLUMNS = 4, BLOCKS = ROWS * COLUMNS };
 static uint8_t blocks[12 * BLOCKS], block_text[59 + 21 * BLOCKS];
+
+/* The largest graph that codewords are given of, with a bit for a fourth of its variables. */
+enum { CODE_VARIABLES = 2048, CODE_CHECKS = 512, CODE_DEGREE = 5, GIVEN = CODE_CHECKS };
+static uint8_t code_starts[4 * (CODE_CHECKS + 1)], code_columns[4 * CODE_DEGREE * CODE_CHECKS], positions[2 * GIVEN], given[GIVEN];
+static uint8_t codeword[CODE_VARIABLES], work[CODE_CHECKS * (CODE_VARIABLES / 8 + 1)];
 
 static int rising(const void *a, const void *b) { return *(const int *)a - *(const int *)b; }
 
@@ -46,6 +52,20 @@ static void make_blocks(void) {
     put32(blocks, 3 * i, i / COLUMNS);
     put32(blocks, 3 * i + 1, i % COLUMNS);
     put32(blocks, 3 * i + 2, SIZE - 1 - 7 * i);
+  }
+}
+
+/* Check i has the variables 4i to 4i + 4, counted round the end; the variables 4i + 1 are given as 1. */
+static void make_code(void) {
+  for (int i = 0; i <= CODE_CHECKS; i++) put32(code_starts, (size_t)i, CODE_DEGREE * (unsigned)i);
+  for (int i = 0; i < CODE_CHECKS; i++) {
+    int row[CODE_DEGREE];
+    for (int k = 0; k < CODE_DEGREE; k++) row[k] = (4 * i + k) % CODE_VARIABLES;
+    qsort(row, CODE_DEGREE, sizeof row[0], rising);
+    for (int k = 0; k < CODE_DEGREE; k++) put32(code_columns, CODE_DEGREE * (size_t)i + (size_t)k, (unsigned)row[k]);
+    positions[2 * i] = (uint8_t)(4 * i + 1);
+    positions[2 * i + 1] = (uint8_t)((4 * i + 1) >> 8);
+    given[i] = 1;
   }
 }
 
@@ -113,6 +133,18 @@ static void *read_blocks_place(void *none) {
   return none;
 }
 
+static void *encode(void *none) {
+  answer = frame_encode(CODE_VARIABLES, code_starts, sizeof code_starts, code_columns, sizeof code_columns, positions, sizeof positions,
+                        given, sizeof given, degrees, sizeof degrees, codeword, sizeof codeword, work, sizeof work);
+  return none;
+}
+
+static void *encode_place(void *none) {
+  answer = frame_encode_place(CODE_VARIABLES, code_starts, sizeof code_starts, code_columns, sizeof code_columns, positions,
+                              sizeof positions, given, sizeof given, degrees, sizeof degrees);
+  return none;
+}
+
 /* How many bytes of a painted stack a call leaves changed. */
 static size_t taken(void *(*call)(void *)) {
   static _Alignas(4096) uint8_t stack[STACK];
@@ -147,6 +179,7 @@ static void measure(const char *name, void *(*call)(void *), size_t most) {
 int main(void) {
   make_frame();
   make_blocks();
+  make_code();
   own = taken(nothing);
   measure("frame_decode", decode, FRAME_DECODE_STACK);
   measure("frame_decode, lifted", decode_lifted, FRAME_DECODE_STACK);
@@ -161,5 +194,7 @@ int main(void) {
   measure("frame_write_blocks_place", write_blocks_place, FRAME_WRITE_BLOCKS_STACK);
   measure("frame_read_blocks", read_blocks, FRAME_READ_BLOCKS_STACK);
   measure("frame_read_blocks_place", read_blocks_place, FRAME_READ_BLOCKS_STACK);
+  measure("frame_encode", encode, FRAME_ENCODE_STACK);
+  measure("frame_encode_place", encode_place, FRAME_ENCODE_STACK);
   return too_many;
 }

@@ -1,16 +1,16 @@
 /* The film frame decoder, for C. `make lib` leaves this header, libframe.a and libframe.so in target/lib; link with -lframe.
 
    Every list is bytes, lowest byte first, at any address: an element is 4 bytes (u32, i32 or f32), and a list's count is its length
-   divided by 4 and rounded down; levels, messages and bits are 1 byte each. Every length is in bytes; where it is 0 the pointer is not
-   looked at. What is lent may not overlap anything else that is given. Nothing needs to be checked beforehand: any numbers and bytes get
-   a result or a numbered refusal.
+   divided by 4 and rounded down; frame_encode's positions are 2 bytes each (u16), and count likewise; levels, messages and bits are 1
+   byte each. Every length is in bytes; where it is 0 the pointer is not looked at. What is lent may not overlap anything else that is
+   given. Nothing needs to be checked beforehand: any numbers and bytes get a result or a numbered refusal.
 
    A graph has n variables, 2 to 1,000,000, m checks, 1 to 1,000,000, and E entries, at most 4,000,000: m + 1 `starts` (u32) and E
    `columns` (u32), the variables of check i, rising, at starts[i] to starts[i + 1]. A check has 2 to 64 entries, a variable 1 to 32.
 
    Every call counts the variables' degrees in a list that it is lent, `degrees`, 4n bytes (u32). A shorter one gets 6, directly before 5
    is looked for. After every call that came as far as 5, refused or not, its first n numbers are the degrees; after every other it is as it
-   was. Bytes past 4n never change. It is the only lent memory that a refused call may have changed. */
+   was. Bytes past 4n never change. It is the only lent memory that a refused call may have changed, but for frame_encode's work after a 19. */
 #ifndef FRAME_H
 #define FRAME_H
 
@@ -22,10 +22,11 @@ extern "C" {
 #endif
 
 /* How many bytes of stack a call or its companion takes at most, beside its caller's. Measured on x86-64 on a graph of the most variables, checks
-   and entries: decode 2,136, reading a sheet 520, writing one 544, reading a block sheet 1,064, writing one 216. No list of a call grows with the
-   graph: the compiled calls have frames of fixed size, and recurse only for the seven digits of a count of 1,000,000. */
+   and entries: decode 2,136, reading a sheet 520, writing one 544, reading a block sheet 1,064, writing one 216, encode 552. No list of a call grows
+   with the graph: the compiled calls have frames of fixed size, and recurse only for the seven digits of a count of 1,000,000. Not counted is what a
+   loader takes where it looks up memcpy or memset at their first call, some 3,000 bytes; link with -z now to have them looked up beforehand. */
 enum { FRAME_DECODE_STACK = 4096, FRAME_READ_SHEET_STACK = 2048, FRAME_WRITE_SHEET_STACK = 2048, FRAME_READ_BLOCKS_STACK = 2048,
-       FRAME_WRITE_BLOCKS_STACK = 2048 };
+       FRAME_WRITE_BLOCKS_STACK = 2048, FRAME_ENCODE_STACK = 2048 };
 
 /* The kind of scaling: a gain alone (the variance is not looked at), or a gain with a noise variance. */
 enum { FRAME_PLAIN = 0, FRAME_NOISE = 1 };
@@ -114,14 +115,34 @@ uint64_t frame_write_blocks(size_t size, size_t rows, size_t columns, const uint
 size_t frame_write_blocks_place(size_t size, size_t rows, size_t columns, const uint8_t *entries, size_t entries_length,
                                 uint8_t *degrees, size_t degrees_length, size_t text_length);
 
+/* The writing side: gives the codeword that holds given bits. `positions` are variables (u16), strictly rising, and `given` has a byte for each, its
+   bit, 0 or 1; none may be given, or all n. Of several codewords that hold these bits it is the one with 0 at the first place where they differ. The
+   graph has at most 2,048 variables and 512 checks.
+
+   Lent: degrees, 4n bytes, as above; codeword, n bytes; work, m times (n / 8 rounded down, plus 1) bytes; 131,584 are enough for every graph.
+   Longer ones may be lent, and what is in them does not matter. Afterwards the codeword stands at its front, a byte for each variable, 0 or 1, and the
+   work bytes are all 0; bytes past these lengths are as they were. After a 19 the work bytes are all 0 too, and the codeword is as it was. After
+   any other refusal every byte but the degrees' is as it was. The answer is taken apart by frame_refusal. */
+uint64_t frame_encode(size_t n, const uint8_t *starts, size_t starts_length, const uint8_t *columns, size_t columns_length,
+                      const uint8_t *positions, size_t positions_length, const uint8_t *given, size_t given_length, uint8_t *degrees,
+                      size_t degrees_length, uint8_t *codeword, size_t codeword_length, uint8_t *work, size_t work_length);
+
+/* The place of the refusal that frame_encode gives for the same graph, positions, given bits and length of `degrees`; 0 where it refuses nothing, and
+   for 2, 6, 18 and 19, so the other lent memory has no part in it. The list of degrees is left as frame_encode leaves it. */
+size_t frame_encode_place(size_t n, const uint8_t *starts, size_t starts_length, const uint8_t *columns, size_t columns_length,
+                          const uint8_t *positions, size_t positions_length, const uint8_t *given, size_t given_length,
+                          uint8_t *degrees, size_t degrees_length);
+
 /* The number of the refusal, 0 where nothing is refused. Of any call:
    2 a count outside its limits, in a sheet also an entry past the 4,000,000th, in a block sheet one that takes E past that; 3 a column not
    below n, in a sheet a number out of range; 4 a column not above its predecessor in the row, in a sheet an entry not after the one above; 5 a
-   degree outside its limits; 6 a lent buffer too short, the list of degrees before 5 is looked for and every other last.
+   degree outside its limits; 6 a lent buffer too short, the list of degrees before 5 is looked for and every other last, but before 19.
    Of reading: 1 a line of another form, or a missing line or LF. Of block sheets: 17 a size of 0, or a shift not below the size.
-   Of decode and of writing a sheet: 7 starts not beginning at 0, one below the start before it, or not ending at E.
+   Of decode, encode and of writing a sheet: 7 starts not beginning at 0, one below the start before it, or not ending at E.
    Of decode: 8 precisions not admitted; 9 an offset above 1 or limit above 255; 16 lift_from or lift_to outside its bounds; 10 gain or variance
-   not finite and above zero, or another kind; 11 factor infinite or zero; 12 a value infinite or NaN; 13 other than n values. */
+   not finite and above zero, or another kind; 11 factor infinite or zero; 12 a value infinite or NaN; 13 other than n values.
+   Of encode, where 2 is also n above 2,048 or m above 512: 18 a position not below n or not above its predecessor, or not as many positions as given
+   bits; 15 a given byte not 0 or 1; 19 no codeword holds the given bits. */
 static inline unsigned frame_refusal(uint64_t answer) { return (unsigned)(answer & 255); }
 
 /* Of decode, where nothing is refused: whether the bits are a codeword, the number of the iteration where the run stopped, and how many

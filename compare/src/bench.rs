@@ -1,6 +1,7 @@
 //! Tables of each decoder's times: decode on large and on small graphs, with lifting off and
-//! on, sheets, and block sheets.
+//! on, sheets, block sheets, and encode.
 
+mod encodings;
 mod frames;
 mod times;
 
@@ -8,6 +9,7 @@ use crate::generate::{Lists, blocks, graphs, texts};
 use crate::interface::Verdict;
 use crate::paper::blocks::text_of;
 use crate::random::Random;
+use encodings::{Encodings, MESSAGES, SMALL_MESSAGES};
 use frames::{Batch, FRAMES, SMALL_FRAMES, STRIP_FRAMES};
 use times::{DecodeTimes, Named, SHORTEST, Times};
 
@@ -18,6 +20,11 @@ const STRIP_SIZE: usize = 1_000_000;
 
 /// Size and columns of the block sheets: expansions of 29,970 and 3,000,000 entries.
 const BLOCKS: [(usize, usize); 2] = [(27, 370), (2_000, 500)];
+
+/// Variables, checks and their degree, and the bits that are given: with as many variables and
+/// checks as there can be, and on small graphs.
+const ENCODINGS: [([usize; 3], usize); 2] = [([2_048, 512, 61], 1_300), ([2_048, 512, 61], 0)];
+const SMALL_ENCODINGS: [([usize; 3], usize); 2] = [([24, 12, 6], 10), ([96, 48, 6], 40)];
 
 const ROUNDS: usize = 101;
 const STRIP_ROUNDS: usize = 11;
@@ -38,6 +45,7 @@ pub fn run(decoders: &[Named]) {
     println!("nanoseconds for the strip's sheet:");
     sheets(decoders, &strip, STRIP_ROUNDS);
     block_sheets(decoders);
+    encodings(decoders);
 }
 
 /// Gives the largest graph.
@@ -128,6 +136,22 @@ fn block_sheets(decoders: &[Named]) {
         for (call, times) in &calls {
             row(&format!("{call:>11}{size:>11}{entries:>11}{bytes:>11}"), times, 0, None);
         }
+    }
+}
+
+fn encodings(decoders: &[Named]) {
+    println!("nanoseconds for a codeword that holds given bits, on graphs of random checks, with");
+    println!("{MESSAGES} messages on large ones and {SMALL_MESSAGES} on small ones;");
+    println!("median and least of {ROUNDS} rounds:");
+    heading(&["n", "checks", "entries", "given"], decoders, &[]);
+    let large = ENCODINGS.map(|row| (row, MESSAGES));
+    for ((counts, given), messages) in
+        large.into_iter().chain(SMALL_ENCODINGS.map(|row| (row, SMALL_MESSAGES)))
+    {
+        let random = &mut Random::for_input(SEED, counts[0] as u64);
+        let encodings = Encodings::new(random, counts, given, messages);
+        let cells = encodings.counts().map(|count| format!("{count:>11}")).concat();
+        row(&cells, &encodings.times(decoders, ROUNDS), 0, None);
     }
 }
 

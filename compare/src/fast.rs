@@ -3,12 +3,13 @@
 
 pub mod blocks;
 pub mod decode;
+pub mod encode;
 pub mod graph;
 pub mod sheet;
 mod tables;
 
 use crate::interface::{
-    Answer, BlocksBytes, DecodeInput, Decoded, Decoder, GraphBytes, Lent, LentLengths,
+    Answer, BlocksBytes, DecodeInput, Decoded, Decoder, EncodeInput, GraphBytes, Lent, LentLengths,
     NUMBER_BYTES, Refusal, SheetCounts,
 };
 
@@ -134,5 +135,23 @@ impl Decoder for Fast {
 
     fn write_blocks_place(&self, blocks: &BlocksBytes, degrees: &mut [u8], text: usize) -> usize {
         place(blocks::measure(blocks, degrees, text))
+    }
+
+    fn encode(
+        &self,
+        input: &EncodeInput,
+        degrees: &mut [u8],
+        codeword: &mut [u8],
+        work: &mut [u8],
+    ) -> Answer<()> {
+        let checked = encode::check(input, degrees);
+        match checked.and_then(|message| encode::run(&message, codeword, work)) {
+            Ok(()) => Answer::Accepted(()),
+            Err(refusal) => Answer::Refused(refusal.number),
+        }
+    }
+
+    fn encode_place(&self, input: &EncodeInput, degrees: &mut [u8]) -> usize {
+        place(encode::check(input, degrees))
     }
 }

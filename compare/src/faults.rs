@@ -3,8 +3,10 @@
 
 mod blocks;
 mod calls;
+mod encode;
 mod found;
 mod found_blocks;
+mod found_encode;
 mod lifting;
 
 use crate::interface::{DecodeInput, LentLengths, Verdict, as_number, f32_list};
@@ -98,6 +100,53 @@ enum Fault {
     BlockTextBeforeFive,
     BlockTextWrittenPast,
     BlockWriterWithoutPlace,
+    // The writing side.
+    FreeBitsAsOne,
+    FirstPivot,
+    NineteenWithARowToUse,
+    NineteenMissed,
+    NineteenOfSingleChecks,
+    NineteenWithoutLastCheck,
+    NineteenOfEmptyChecks,
+    GivenBitNotHeld,
+    RightSideNotAdded,
+    ChecksAboveNotCleared,
+    WorkTakenAsLent,
+    WorkLeftAfterNineteen,
+    WorkLeftAfterCodeword,
+    WorkClearedBySix,
+    WorkClearedByEighteen,
+    WorkWrittenPast,
+    WorkNotMeasured,
+    WorkWithoutRightSide,
+    CodewordBeforeNineteen,
+    CodewordClearedByNineteen,
+    CodewordNotCleared,
+    CodewordWrittenPast,
+    CodewordNotMeasured,
+    EqualPositionAdmitted,
+    FallingPositionAdmitted,
+    PositionOfNAdmitted,
+    PositionsOf8Bits,
+    PartOfPositionRead,
+    MoreBitsAdmitted,
+    MorePositionsAdmitted,
+    BitOf2Admitted,
+    N2049Admitted,
+    M513Admitted,
+    WritingLimitsAfterSeven,
+    WritingEntriesOfProgram,
+    FifteenBeforeEighteen,
+    SixBeforeFifteen,
+    NineteenBeforeSix,
+    EighteenBeforeFive,
+    LastBadBit,
+    FifteenWithoutPlace,
+    EighteenWithPlace,
+    NineteenWithPlace,
+    DegreesChangedByTwo,
+    DegreesLeftByWriting,
+    DegreesLeftByWritingPlace,
 }
 
 struct Faulty(Fault);

@@ -3,6 +3,7 @@
 mod arena;
 mod blocks;
 pub mod check;
+mod encode;
 mod programs;
 mod report;
 mod series;
@@ -10,11 +11,14 @@ mod shrink;
 mod twins;
 
 use check::check;
+#[cfg(test)]
+pub use encode::is_decoded;
 pub use programs::{refusal_number, run_programs};
 pub use series::{Budget, Failure, Series};
 
 use crate::generate::block_strips::{self, BLOCK_STRIPS};
 use crate::generate::cases::{self, Case};
+use crate::generate::encode_limits::{self, ENCODE_STRIPS};
 use crate::generate::strips::{STRIPS, strip};
 use crate::interface::Decoder;
 use crate::random::Random;
@@ -55,7 +59,11 @@ impl Inputs {
         let index = number.checked_sub(INPUTS_BEFORE_STRIPS)? as usize;
         match index.checked_sub(STRIPS) {
             None => Some(strip(self.seed, index)),
-            Some(index) => (index < BLOCK_STRIPS).then(|| block_strips::strip(self.seed, index)),
+            Some(index) if index < BLOCK_STRIPS => Some(block_strips::strip(self.seed, index)),
+            Some(index) => {
+                let index = index - BLOCK_STRIPS;
+                (index < ENCODE_STRIPS).then(|| encode_limits::strip(index))
+            }
         }
     }
 }
@@ -147,6 +155,16 @@ mod tests {
         for (number, expected) in expected.into_iter().enumerate() {
             let seen = check(&block_strips::strip(3, number), &Fast, number as u64).unwrap();
             assert_eq!((seen.call, seen.refusal), expected, "block strip {number}");
+        }
+    }
+    /// And of the writing side: as many columns as there can be, and one more.
+    #[test]
+    fn encode_strips_are_what_they_are_for() {
+        let first = INPUTS_BEFORE_STRIPS + (STRIPS + BLOCK_STRIPS) as u64;
+        let inputs = Inputs::of(3);
+        for (number, expected) in (first..).zip([4, 2]) {
+            let seen = check(&inputs.input(number), &Fast, number).unwrap();
+            assert_eq!((seen.call, seen.refusal), ("encode", expected), "input {number}");
         }
     }
 }

@@ -6,6 +6,9 @@
 /// The bytes of a start, a column or a degree.
 pub const NUMBER_BYTES: usize = 4;
 
+/// The bytes of an encoder's position.
+pub const POSITION_BYTES: usize = 2;
+
 /// The bytes of a block sheet's entry: row, column and shift.
 pub const ENTRY_BYTES: usize = 3 * NUMBER_BYTES;
 
@@ -90,6 +93,20 @@ pub struct DecodeInput<'a> {
     pub graph: GraphBytes<'a>,
     pub values: &'a [u8],
     pub settings: Settings,
+}
+
+/// A graph, variables of it, and a bit for each, as the host gives them to be encoded: nothing is
+/// checked yet. A part of a position at the end of the list is no position.
+#[derive(Clone, Copy)]
+pub struct EncodeInput<'a> {
+    pub graph: GraphBytes<'a>,
+    pub positions: &'a [u8],
+    pub given: &'a [u8],
+}
+
+/// How many bytes an encoder works in.
+pub fn work_length(n: usize, m: usize) -> usize {
+    m.saturating_mul(n / 8 + 1)
 }
 
 /// The five buffers lent to decode beside the list of degrees.
@@ -192,6 +209,15 @@ pub trait Decoder {
         text: &mut [u8],
     ) -> Answer<usize>;
     fn write_blocks_place(&self, blocks: &BlocksBytes, degrees: &mut [u8], text: usize) -> usize;
+
+    fn encode(
+        &self,
+        input: &EncodeInput,
+        degrees: &mut [u8],
+        codeword: &mut [u8],
+        work: &mut [u8],
+    ) -> Answer<()>;
+    fn encode_place(&self, input: &EncodeInput, degrees: &mut [u8]) -> usize;
 }
 
 /// What 32 bits leave of a count.
@@ -207,6 +233,15 @@ pub fn numbers(bytes: &[u8]) -> Vec<u32> {
 /// The bytes of starts, columns or degrees.
 pub fn number_bytes(list: &[u32]) -> Vec<u8> {
     list.iter().flat_map(|number| number.to_le_bytes()).collect()
+}
+
+/// The positions in these bytes.
+pub fn positions(bytes: &[u8]) -> Vec<u16> {
+    bytes.as_chunks::<POSITION_BYTES>().0.iter().map(|&at| u16::from_le_bytes(at)).collect()
+}
+
+pub fn position_bytes(list: &[u16]) -> Vec<u8> {
+    list.iter().flat_map(|position| position.to_le_bytes()).collect()
 }
 
 pub fn f32_list(bytes: &[u8]) -> Vec<f32> {
@@ -236,5 +271,21 @@ mod tests {
         assert_eq!(numbers(&bytes[..bytes.len() - 1]), list[..2]);
         assert_eq!(as_number(usize::MAX), u32::MAX);
         assert_eq!(as_number(u32::MAX as usize + 3), 2);
+    }
+
+    #[test]
+    fn positions_and_their_bytes() {
+        let list = [0, 0x0102, u16::MAX];
+        let bytes = position_bytes(&list);
+        assert_eq!(bytes, [0, 0, 2, 1, 255, 255]);
+        assert_eq!(positions(&bytes), list);
+        assert_eq!(positions(&bytes[..bytes.len() - 1]), list[..2]);
+    }
+
+    #[test]
+    fn bytes_to_work_in() {
+        // A bit for each variable and one more.
+        assert_eq!([6, 7, 8, 9].map(|n| work_length(n, 1)), [1, 1, 2, 2]);
+        assert_eq!(work_length(2_048, 512), 131_584);
     }
 }

@@ -1,134 +1,13 @@
-//! The proved library's C interface and safe wrappers: the only file that knows how
+//! The proved library's C interface and safe wrappers: the only module that knows how
 //! slices are passed and answers packed. It is built when the archive is linked.
 
-use crate::interface::{
-    Answer, BlocksBytes, DecodeInput, Decoded, Decoder, GraphBytes, Lent, SheetCounts, Verdict,
-};
+mod entries;
 
-unsafe extern "C" {
-    fn frame_decode(
-        n: usize,
-        starts: *const u8,
-        starts_length: usize,
-        columns: *const u8,
-        columns_length: usize,
-        values: *const u8,
-        values_length: usize,
-        kind: u32,
-        gain: f32,
-        variance: f32,
-        channel: u32,
-        message: u32,
-        phi_s: u32,
-        phi_a: u32,
-        phi_0: u32,
-        limit: u32,
-        lift_from: u32,
-        lift_to: u32,
-        degrees: *mut u8,
-        degrees_length: usize,
-        levels: *mut u8,
-        levels_length: usize,
-        variable_messages: *mut u8,
-        variable_messages_length: usize,
-        check_messages: *mut u8,
-        check_messages_length: usize,
-        sums: *mut u8,
-        sums_length: usize,
-        bits: *mut u8,
-        bits_length: usize,
-    ) -> u64;
-    fn frame_decode_place(
-        n: usize,
-        starts: *const u8,
-        starts_length: usize,
-        columns: *const u8,
-        columns_length: usize,
-        values: *const u8,
-        values_length: usize,
-        refusal: u32,
-        degrees: *mut u8,
-        degrees_length: usize,
-    ) -> usize;
-    fn frame_read_sheet(
-        text: *const u8,
-        text_length: usize,
-        degrees: *mut u8,
-        degrees_length: usize,
-        starts: *mut u8,
-        starts_length: usize,
-        columns: *mut u8,
-        columns_length: usize,
-    ) -> u64;
-    fn frame_read_sheet_place(
-        text: *const u8,
-        text_length: usize,
-        degrees: *mut u8,
-        degrees_length: usize,
-        starts_length: usize,
-        columns_length: usize,
-    ) -> usize;
-    fn frame_write_sheet(
-        n: usize,
-        starts: *const u8,
-        starts_length: usize,
-        columns: *const u8,
-        columns_length: usize,
-        degrees: *mut u8,
-        degrees_length: usize,
-        text: *mut u8,
-        text_length: usize,
-    ) -> u64;
-    fn frame_write_sheet_place(
-        n: usize,
-        starts: *const u8,
-        starts_length: usize,
-        columns: *const u8,
-        columns_length: usize,
-        degrees: *mut u8,
-        degrees_length: usize,
-        text_length: usize,
-    ) -> usize;
-    fn frame_read_blocks(
-        text: *const u8,
-        text_length: usize,
-        degrees: *mut u8,
-        degrees_length: usize,
-        starts: *mut u8,
-        starts_length: usize,
-        columns: *mut u8,
-        columns_length: usize,
-    ) -> u64;
-    fn frame_read_blocks_place(
-        text: *const u8,
-        text_length: usize,
-        degrees: *mut u8,
-        degrees_length: usize,
-        starts_length: usize,
-        columns_length: usize,
-    ) -> usize;
-    fn frame_write_blocks(
-        size: usize,
-        rows: usize,
-        columns: usize,
-        entries: *const u8,
-        entries_length: usize,
-        degrees: *mut u8,
-        degrees_length: usize,
-        text: *mut u8,
-        text_length: usize,
-    ) -> u64;
-    fn frame_write_blocks_place(
-        size: usize,
-        rows: usize,
-        columns: usize,
-        entries: *const u8,
-        entries_length: usize,
-        degrees: *mut u8,
-        degrees_length: usize,
-        text_length: usize,
-    ) -> usize;
-}
+use crate::interface::{
+    Answer, BlocksBytes, DecodeInput, Decoded, Decoder, EncodeInput, GraphBytes, Lent, SheetCounts,
+    Verdict,
+};
+use entries::*;
 
 pub struct Library;
 
@@ -368,6 +247,57 @@ impl Decoder for Library {
                 degrees.as_mut_ptr(),
                 degrees.len(),
                 text,
+            )
+        }
+    }
+
+    fn encode(
+        &self,
+        input: &EncodeInput,
+        degrees: &mut [u8],
+        codeword: &mut [u8],
+        work: &mut [u8],
+    ) -> Answer<()> {
+        let EncodeInput { graph, positions, given } = input;
+        // SAFETY: as above.
+        let answer = unsafe {
+            frame_encode(
+                graph.n,
+                graph.starts.as_ptr(),
+                graph.starts.len(),
+                graph.columns.as_ptr(),
+                graph.columns.len(),
+                positions.as_ptr(),
+                positions.len(),
+                given.as_ptr(),
+                given.len(),
+                degrees.as_mut_ptr(),
+                degrees.len(),
+                codeword.as_mut_ptr(),
+                codeword.len(),
+                work.as_mut_ptr(),
+                work.len(),
+            )
+        };
+        unpacked(answer, |answer| (answer == 0).then_some(()))
+    }
+
+    fn encode_place(&self, input: &EncodeInput, degrees: &mut [u8]) -> usize {
+        let EncodeInput { graph, positions, given } = input;
+        // SAFETY: as above.
+        unsafe {
+            frame_encode_place(
+                graph.n,
+                graph.starts.as_ptr(),
+                graph.starts.len(),
+                graph.columns.as_ptr(),
+                graph.columns.len(),
+                positions.as_ptr(),
+                positions.len(),
+                given.as_ptr(),
+                given.len(),
+                degrees.as_mut_ptr(),
+                degrees.len(),
             )
         }
     }

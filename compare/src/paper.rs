@@ -1,6 +1,7 @@
 //! The paper's rules, naive and clear. Quoted words in the comments are the paper's.
 
 pub mod blocks;
+pub mod encode;
 pub mod graph;
 pub mod limits;
 pub mod program;
@@ -12,6 +13,7 @@ pub mod text;
 
 pub use crate::interface::Refusal;
 pub use blocks::{Blocks, Entry};
+pub use encode::encode;
 pub use graph::{Graph, check_graph, count_odd_checks, row_of_check};
 pub use limits::Limits;
 pub use program::frame;

@@ -181,7 +181,7 @@ fn accepted_time<T>(time: Duration, answer: &Answer<T>) -> f64 {
 }
 
 /// Each decoder once a round, round after round.
-fn in_turns(
+pub fn in_turns(
     decoders: &[Named],
     rounds: usize,
     mut measure: impl FnMut(&dyn Decoder, usize) -> f64,

@@ -4,8 +4,8 @@ use super::{Fault, Faulty, last_bad_value};
 use crate::generate::Lists;
 use crate::harness::check::level_bytes;
 use crate::interface::{
-    Answer, BlocksBytes, DecodeInput, Decoded, Decoder, GraphBytes, Lent, LentLengths, SheetCounts,
-    f32_list, i32_bytes, number_bytes, numbers,
+    Answer, BlocksBytes, DecodeInput, Decoded, Decoder, EncodeInput, GraphBytes, Lent, LentLengths,
+    SheetCounts, f32_list, i32_bytes, number_bytes, numbers,
 };
 use crate::paper::{self, Limits, Outcome, Refusal, Sheet};
 
@@ -253,5 +253,19 @@ impl Decoder for Faulty {
 
     fn write_blocks_place(&self, blocks: &BlocksBytes, degrees: &mut [u8], text: usize) -> usize {
         self.write_blocks_place_faulty(blocks, degrees, text)
+    }
+
+    fn encode(
+        &self,
+        input: &EncodeInput,
+        degrees: &mut [u8],
+        codeword: &mut [u8],
+        work: &mut [u8],
+    ) -> Answer<()> {
+        self.encode_faulty(input, degrees, codeword, work)
+    }
+
+    fn encode_place(&self, input: &EncodeInput, degrees: &mut [u8]) -> usize {
+        self.encode_place_faulty(input, degrees)
     }
 }

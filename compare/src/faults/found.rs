@@ -17,19 +17,21 @@ pub fn found(fault: Fault) -> Failure {
     failure
 }
 
-/// The graph entries of a failing decode, and its iteration limit.
+/// The graph entries of a failing decode, and its iteration limit; a codeword that encode gave is
+/// decoded with limit 0.
 fn size(failure: &Failure) -> (usize, u32) {
     match &failure.case {
         Case::Decode(case) => (case.entries(), case.settings.limit),
         Case::Twin(case) => (case.decode.entries(), case.decode.settings.limit),
+        Case::Encode(case) => (case.columns.len() / NUMBER_BYTES, 0),
         other => panic!("found in {other:?}"),
     }
 }
 
 #[test]
 fn nothing_without_a_fault() {
-    let series = harness::run(&Faulty(Fault::None), SEED, Budget::Inputs(5_000));
-    assert_eq!(series.inputs, 5_000);
+    let series = harness::run(&Faulty(Fault::None), SEED, Budget::Inputs(6_000));
+    assert_eq!(series.inputs, 6_000);
     assert!(series.failure.is_none());
 }
 
@@ -53,6 +55,9 @@ fn nothing_in_the_fast_decoder() {
     }
     for number in [2, 3, 4, 5, 6, 17] {
         assert!(series.tally.contains_key(&("write blocks", number)), "write blocks {number}");
+    }
+    for number in [2, 3, 4, 5, 6, 7, 15, 18, 19] {
+        assert!(series.tally.contains_key(&("encode", number)), "encode {number}");
     }
     assert!(series.iterations.contains_key(&255));
 }
@@ -176,7 +181,7 @@ pub fn messages<const COUNT: usize>(faults: [Fault; COUNT]) -> [String; COUNT] {
             }
             Case::Write(case) => case.columns.len() / NUMBER_BYTES,
             Case::WriteBlocks(case) => case.entries.len() / ENTRY_BYTES,
-            Case::Decode(_) | Case::Twin(_) => size(&failure).0,
+            Case::Decode(_) | Case::Twin(_) | Case::Encode(_) => size(&failure).0,
         };
         assert!(entries <= 64, "{fault:?}");
         failure.message

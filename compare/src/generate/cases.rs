@@ -1,9 +1,10 @@
 //! Whole inputs of a call, made from the parts.
 
 use super::codewords::Codewords;
+use super::encoding::{self, EncodeCase};
 use super::{
-    Lists, block_limits, block_orders, blocks, damage, graphs, lifting, limits, orders, refusals,
-    settings, texts,
+    Lists, block_limits, block_orders, blocks, damage, encode_limits, encode_orders, graphs,
+    lifting, limits, orders, refusals, settings, texts,
 };
 use crate::interface::{
     LentLengths, NEVER, NUMBER_BYTES, Settings, f32_bytes, f32_list, number_bytes, numbers,
@@ -105,6 +106,7 @@ pub enum Case {
     Twin(TwinCase),
     ReadBlocks(ReadCase),
     WriteBlocks(WriteBlocksCase),
+    Encode(EncodeCase),
 }
 
 /// An input of the program: its file, if there is one, and its standard input.
@@ -114,8 +116,8 @@ pub struct ProgramCase {
 }
 
 /// The inputs at the program's limits and one past them, every order of refusals around the
-/// list of degrees and of decode's others, every admitted W, and block sheets by every pair of
-/// refusals and around every limit; they are in every series.
+/// list of degrees and of decode's others, every admitted W, and block sheets and the writing
+/// side by every pair of refusals and around every limit; they are in every series.
 pub fn at_small_limits(random: &mut Random) -> Vec<Case> {
     let mut cases = orders::cases();
     cases.extend(refusals::cases());
@@ -139,10 +141,16 @@ pub fn at_small_limits(random: &mut Random) -> Vec<Case> {
     cases.push(Case::Twin(any_twin_of(random, &lists)));
     cases.extend(block_orders::cases());
     cases.extend(block_limits::cases());
+    cases.extend(encode_orders::cases());
+    cases.extend(encode_limits::cases(random));
     cases
 }
 
+/// The writing side is chosen beside the other calls, whose inputs stay what they were without it.
 pub fn any(random: &mut Random) -> Case {
+    if random.clone().one_in(13) {
+        return Case::Encode(encoding::any(random));
+    }
     match random.below(24) {
         0..=10 => Case::Decode(any_decode(random)),
         11..=13 => Case::Twin(any_twin(random)),
@@ -223,7 +231,7 @@ pub fn degrees_length(random: &mut Random, n: usize) -> usize {
 }
 
 /// Mostly no damage, else one to three.
-fn damages(random: &mut Random) -> usize {
+pub fn damages(random: &mut Random) -> usize {
     match random.below(10) {
         0 => random.between(2, 3),
         1 => 1,

@@ -41,6 +41,11 @@ impl Codewords {
         Codewords { n: lists.n, rows, free }
     }
 
+    /// How many checks say something new.
+    pub fn rank(&self) -> usize {
+        self.rows.len()
+    }
+
     /// A codeword with random bits at the free variables.
     pub fn random(&self, random: &mut Random) -> Vec<u8> {
         let mut word = vec![0; self.n];

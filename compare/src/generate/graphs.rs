@@ -94,6 +94,52 @@ pub fn without_idle_variables(lists: &Lists) -> (Lists, Vec<usize>) {
     (Lists { n: kept.len(), starts: lists.starts.clone(), columns }, kept)
 }
 
+/// Just so many variables and checks, at most 64 variables for a check. Every variable stands in a
+/// check; a check has `degree` variables or, where they must be dealt out, more.
+pub fn covering(random: &mut Random, n: usize, checks: usize, degree: usize) -> Lists {
+    let mut dealt: Vec<u32> = (0..n).map(as_number).collect();
+    random.shuffle(&mut dealt);
+    let mut rows = vec![Vec::new(); checks];
+    dealt.into_iter().enumerate().for_each(|(at, variable)| rows[at % checks].push(variable));
+    let mut degrees = vec![1; n];
+    for row in &mut rows {
+        while row.len() < degree.min(n) {
+            let variable = random.below(n);
+            if degrees[variable] < 32 && !row.contains(&as_number(variable)) {
+                degrees[variable] += 1;
+                row.push(as_number(variable));
+            }
+        }
+        row.sort_unstable();
+    }
+    Lists::from_rows(n, &rows)
+}
+
+/// A further check, somewhere, that says what some others say together, where it is admitted: the
+/// variables that stand in an odd number of them. Of one check it is a repetition.
+pub fn repeat_checks(random: &mut Random, lists: &mut Lists) {
+    let mut rows = lists.rows();
+    let sum = sum_of_checks(random, &rows);
+    let mut degrees = vec![0; lists.n];
+    lists.columns.iter().for_each(|&variable| degrees[variable as usize] += 1);
+    let has_room = sum.iter().all(|&variable| degrees[variable as usize] < 32);
+    if has_room && (2..=64).contains(&sum.len()) {
+        rows.insert(random.below(rows.len() + 1), sum);
+        *lists = Lists::from_rows(lists.n, &rows);
+    }
+}
+
+/// The variables that stand in an odd number of some checks.
+pub fn sum_of_checks(random: &mut Random, rows: &[Vec<u32>]) -> Vec<u32> {
+    let count = random.between(1, rows.len().min(5));
+    let mut chosen: Vec<&Vec<u32>> = rows.iter().collect();
+    random.shuffle(&mut chosen);
+    let mut variables: Vec<u32> = chosen[..count].iter().copied().flatten().copied().collect();
+    variables.sort_unstable();
+    let odd = variables.chunk_by(|a, b| a == b).filter(|same| same.len() % 2 == 1);
+    odd.map(|same| same[0]).collect()
+}
+
 /// As many variables, checks and entries as there can be.
 pub fn fullest(limits: Limits, random: &mut Random) -> Lists {
     let Limits { variables, checks, entries } = limits;

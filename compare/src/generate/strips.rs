@@ -76,6 +76,7 @@ fn damaged(random: &mut Random, number: usize) -> Case {
             Case::Twin(case) => case.decode.degrees -= 1,
             Case::ReadBlocks(case) => case.degrees -= 1,
             Case::WriteBlocks(case) => case.degrees -= 1,
+            Case::Encode(case) => case.degrees -= 1,
         }
     }
     case

@@ -2,7 +2,8 @@
 
 use super::series::{Failure, Series};
 use crate::generate::cases::{Case, DecodeCase, ReadCase, WriteBlocksCase};
-use crate::interface::{f32_list, numbers};
+use crate::generate::encoding::EncodeCase;
+use crate::interface::{f32_list, numbers, positions};
 use std::fmt::{self, Display, Formatter};
 
 /// A list of at most this many elements is printed whole.
@@ -65,6 +66,15 @@ fn write_blocks(case: &WriteBlocksCase) -> String {
     )
 }
 
+fn encode(case: &EncodeCase) -> String {
+    let mut text = graph(case.n, &case.starts, &case.columns);
+    let positions = (case.positions.len(), listed(&positions(&case.positions)));
+    text += &format!("  positions ({} bytes) {}\n", positions.0, positions.1);
+    text += &format!("  given ({} bytes) {}\n", case.given.len(), listed(&case.given));
+    text += &format!("  lent bytes {}, then {} {}\n", case.degrees, case.codeword, case.work);
+    text
+}
+
 /// The whole input, a line for each list.
 pub fn described(case: &Case) -> String {
     match case {
@@ -75,6 +85,7 @@ pub fn described(case: &Case) -> String {
         Case::Read(case) => format!("read a sheet\n{}", read(case)),
         Case::ReadBlocks(case) => format!("read a block sheet\n{}", read(case)),
         Case::WriteBlocks(case) => format!("write a block sheet\n{}", write_blocks(case)),
+        Case::Encode(case) => format!("encode\n{}", encode(case)),
         Case::Write(case) => format!(
             "write a sheet\n{}  lent bytes {}, then {}\n",
             graph(case.n, &case.starts, &case.columns),

@@ -1,9 +1,11 @@
 //! A failing input made smaller for as long as it still fails.
 
 mod blocks;
+mod encode;
 
 use crate::generate::Lists;
 use crate::generate::cases::{Case, DecodeCase, WriteCase};
+use crate::generate::encoding::EncodeCase;
 use crate::generate::graphs::without_idle_variables;
 use crate::interface::{
     LARGEST_LIFT, LentLengths, NEVER, NUMBER_BYTES, Settings, f32_bytes, f32_list, number_bytes,
@@ -43,11 +45,12 @@ enum Dimension {
     Values,
     Buffers,
     Blocks(blocks::Dimension),
+    Encode(encode::Dimension),
     Lines,
     Bytes,
 }
 
-const DIMENSIONS: [Dimension; 13] = [
+const DIMENSIONS: [Dimension; 16] = [
     Dimension::Settings,
     Dimension::Checks,
     Dimension::Variables,
@@ -59,6 +62,9 @@ const DIMENSIONS: [Dimension; 13] = [
     Dimension::Blocks(blocks::Dimension::Columns),
     Dimension::Blocks(blocks::Dimension::Entries),
     Dimension::Blocks(blocks::Dimension::Numbers),
+    Dimension::Encode(encode::Dimension::Pairs),
+    Dimension::Encode(encode::Dimension::Bits),
+    Dimension::Encode(encode::Dimension::Lengths),
     Dimension::Lines,
     Dimension::Bytes,
 ];
@@ -130,6 +136,7 @@ fn extent(case: &Case, dimension: Dimension) -> usize {
         Dimension::Values => values_of(case).len(),
         Dimension::Buffers => 2,
         Dimension::Blocks(dimension) => blocks::extent(case, dimension),
+        Dimension::Encode(dimension) => encode::extent(case, dimension),
         Dimension::Starts => lists.map_or(0, |lists| lists.starts.len()),
         Dimension::Columns => lists.map_or(0, |lists| lists.columns.len()),
         Dimension::Checks => lists.filter(has_rows).map_or(0, |lists| lists.starts.len() - 1),
@@ -146,6 +153,7 @@ fn cut(case: &Case, dimension: Dimension, part: Range<usize>) -> Option<Case> {
         Dimension::Values => with_plainer_values(case, part),
         Dimension::Buffers => with_exact_buffers(case, part),
         Dimension::Blocks(dimension) => blocks::cut(case, dimension, part),
+        Dimension::Encode(dimension) => encode::cut(case, dimension, part),
         Dimension::Starts => {
             let lists = lists_of(case)?;
             let starts = without(&lists.starts, &part);
@@ -215,7 +223,8 @@ fn with_text(case: &Case, text: Vec<u8>) -> Case {
 
 fn lists_of(case: &Case) -> Option<Lists> {
     let (n, starts, columns) = match case {
-        Case::Write(WriteCase { n, starts, columns, .. }) => (*n, starts, columns),
+        Case::Write(WriteCase { n, starts, columns, .. })
+        | Case::Encode(EncodeCase { n, starts, columns, .. }) => (*n, starts, columns),
         _ => decode_of(case).map(|case| (case.n, &case.starts, &case.columns))?,
     };
     Some(Lists { n, starts: numbers(starts), columns: numbers(columns) })
@@ -236,9 +245,6 @@ fn has_rows(lists: &Lists) -> bool {
 /// the list of degrees and decode's buffers as much too long or short as before.
 fn on_lists(case: &Case, lists: &Lists, kept: Option<&[usize]>) -> Case {
     let (starts, columns) = (number_bytes(&lists.starts), number_bytes(&lists.columns));
-    let moved = |length: usize, before: usize, after: usize| {
-        length.saturating_add(after).saturating_sub(before)
-    };
     let mut case = with_decode(case, |decode| {
         let (before, after) = (needed(decode), LentLengths::needed(lists.n, lists.columns.len()));
         let mut lent = decode.lent.as_array();
@@ -264,9 +270,15 @@ fn on_lists(case: &Case, lists: &Lists, kept: Option<&[usize]>) -> Case {
             write.degrees = moved(write.degrees, exact_degrees(write.n), exact_degrees(lists.n));
             (write.n, write.starts, write.columns) = (lists.n, starts, columns);
         }
+        Case::Encode(case) => encode::put_on_lists(case, lists, kept),
         _ => {}
     }
     case
+}
+
+/// A length that is as much too long or short as before.
+fn moved(length: usize, before: usize, after: usize) -> usize {
+    length.saturating_add(after).saturating_sub(before)
 }
 
 fn needed(case: &DecodeCase) -> LentLengths {

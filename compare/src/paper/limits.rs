@@ -22,6 +22,10 @@ impl Limits {
     /// Those of the program: "the program keeps its file sizes and the old limits".
     pub const PROGRAM: Limits = Limits { variables: 8_192, checks: 8_192, entries: 32_768 };
 
+    /// Those of the writing side, which "serves graphs of at most 2,048 variables and 512
+    /// checks".
+    pub const WRITING: Limits = Limits { variables: 2_048, checks: 512, ..Limits::LENT };
+
     pub fn admit_variables(&self, n: usize) -> bool {
         (LEAST_VARIABLES..=self.variables).contains(&n)
     }

@@ -2,6 +2,7 @@
 #![allow(dead_code)]
 
 pub mod blocks;
+pub mod encode;
 
 use compare::interface::{LARGEST_LIFT, LentLengths, NEVER, Settings};
 use compare::paper::{Graph, Level, Limits, Outcome, Refusal, decode};

@@ -238,7 +238,7 @@ pub enum OddChecks {
 }
 
 // The first byte that is neither 0 nor 1.
-fn check_bits(bits: &[u8]) -> Judged
+pub fn check_bits(bits: &[u8]) -> Judged
     ensures { λ r. ⌜ r ≡ bytesJudged (now (bits .entry)) ⌝ }
 {
     let mut at = 0;

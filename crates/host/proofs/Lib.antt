@@ -2,3 +2,4 @@ pub mod Smallness
 pub mod SheetAnswers
 pub mod Places
 pub mod BlockAnswers
+pub mod EncodeAnswers

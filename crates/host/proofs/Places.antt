@@ -107,6 +107,8 @@ number-small (R.RunText p) = refl
 number-small (R.Bit p) = refl
 number-small R.Lifting = refl
 number-small (R.Shift p) = refl
+number-small R.Positions = refl
+number-small R.NoCodeword = refl
 
 -- the lowest byte of the answer is the number
 number-packed : (F : Frame) (j : Judged) → packDecoded (decoded F j) % 256 ≡ numberOf j

@@ -1,3 +1,4 @@
 pub mod Packing
 pub mod Blocks
+pub mod Encoding
 pub mod Theorems

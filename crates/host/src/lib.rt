@@ -13,6 +13,7 @@ use rules::Judged;
 use rules::Verdict;
 
 pub mod sheets; // the entries for code sheets
+pub mod encoding; // the entry for the writing side
 
 // The scaling of a kind; another kind than 0 and 1 is turned down as a gain of zero is.
 fn scaling_of(kind: u32, gain: f32, variance: f32) -> Scaling

@@ -55,6 +55,8 @@ pub enum Refusal {
     Bit(usize),
     Lifting,
     Shift(usize),
+    Positions,
+    NoCodeword,
 }
 
 // The paper's number of a refusal, and its place.
@@ -103,6 +105,14 @@ impl Refusal {
                 place: 0,
             },
             Refusal::Shift(place) => Numbered { number: 17, place },
+            Refusal::Positions => Numbered {
+                number: 18,
+                place: 0,
+            },
+            Refusal::NoCodeword => Numbered {
+                number: 19,
+                place: 0,
+            },
         }
     }
 }

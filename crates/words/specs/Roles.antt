@@ -1,4 +1,4 @@
--- The lists of documents 01 and 02 by their roles: starts, columns and degrees are u32, sums i32, values f32, bits bytes.
+-- The lists of documents 01 and 02 by their roles: starts, columns and degrees are u32, sums i32, values f32, given positions u16, bits bytes.
 use mathlib.Core.Bool.{Bool}
 use mathlib.Core.List.{List}
 use Prim.Native.Nat.{ℕ, _-_, _*_, _/_}
@@ -25,6 +25,10 @@ columnAt columns e = word wide columns (wide * e)
 -- The degree of variable v, of a list of degrees: 32-bit numbers.
 abbrev pub degreeAt : List ℕ → ℕ → ℕ
 degreeAt degrees v = word 4 degrees (4 * v)
+
+-- Given position k (document 02, item 3): 16-bit numbers.
+abbrev pub positionAt : List ℕ → ℕ → ℕ
+positionAt positions k = word 2 positions (2 * k)
 
 -- The graph that two byte lists hold, admitted or not. No starts make no checks, which counts as a bad m.
 abbrev pub graphOf : ℕ → List ℕ → List ℕ → Graph

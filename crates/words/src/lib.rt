@@ -6,10 +6,17 @@ ghost use lib.Ieee.{binary32, ofBits};
 ghost use mir.Syntax.{w32};
 ghost use mir.Val.{toZ, ofZ};
 ghost use Rattle.words.specs.Words.{word, stored};
-ghost use Rattle.words.specs.Roles.{wide, startAt, columnAt, degreeAt, sumAt, patternAt, valueAt};
+ghost use Rattle.words.specs.Roles.{wide, startAt, columnAt, degreeAt, positionAt, sumAt, patternAt, valueAt};
 
 // How many bytes a row start or a column is: `wide` of specs/Roles.
 pub const WIDE: usize = 4;
+
+// The number of two bytes.
+fn join16(a: u8, b: u8) -> u16
+    ensures { λ r. ⌜ r ≡ a + 256 * b ⌝ }
+{
+    a as u16 + 256 * (b as u16)
+}
 
 // The number of four bytes.
 fn join32(a: u8, b: u8, c: u8, d: u8) -> u32
@@ -108,6 +115,14 @@ pub fn put_degree(degrees: &mut [u8], v: usize, x: u32)
     ensures { λ _. ⌜ now (degrees .exit) ≡ stored 4 (now (degrees .entry)) (4 * v) x ⌝ }
 {
     store32(degrees, 4 * v, x);
+}
+
+// The given position k.
+pub fn position(positions: &[u8], k: usize) -> usize
+    requires { ⌜ k < length (now positions) / 2 ⌝ }
+    ensures { λ r. ⌜ r ≡ positionAt (now (positions .entry)) k ⌝ }
+{
+    join16(positions[2 * k], positions[2 * k + 1]) as usize
 }
 
 // The sum of variable v.

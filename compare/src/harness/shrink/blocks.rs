@@ -1,7 +1,7 @@
 //! Cuts of block sheets that keep their form: whole rows and columns of blocks, single entries,
 //! and plainer numbers.
 
-use super::without;
+use super::{moved, without};
 use crate::generate::blocks::{read_case, write_case};
 use crate::generate::cases::{Case, ReadCase, WriteBlocksCase};
 use crate::paper::blocks::numbers_of;
@@ -122,9 +122,6 @@ fn plainer(blocks: &Blocks) -> Vec<Blocks> {
 
 /// The case on other numbers, with the lent lists as much too long or short as before.
 fn with_blocks(case: &Case, smaller: &Blocks) -> Case {
-    let moved = |length: usize, before: usize, after: usize| {
-        length.saturating_add(after).saturating_sub(before)
-    };
     match (case, blocks_of(case)) {
         (Case::ReadBlocks(case), Some(blocks)) => {
             let (before, after) = (read_case(&blocks), read_case(smaller));

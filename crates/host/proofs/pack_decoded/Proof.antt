@@ -1,9 +1,10 @@
 use mathlib.Core.Path.{sym, ap, _∙_, subst}
 use Prim.Native.Nat.{ℕ, _+_, _*_}
 use native.Mathlib.Omega.{arith}
+use borrow.Author.Needs.{needs}
+use Rattle.rules.specs.declared.Numbered.{Numbered}
 use Rattle.host.specs.Packing.{Small, packDecoded}
 use Rattle.host.proofs.Smallness.{verdict-small}
-use borrow.Author.Needs.{needs}
 use Rattle.host.proofs.pack_decoded.Statement.{statement}
 use Rattle.host.proofs.pack_decoded.Tie as tie
 
@@ -38,7 +39,7 @@ add-result-2 : tie.Need-add-result-2
 add-result-2 c = omega (arith, subst Small (c .before .before .d2 .given .1) (c .before .before .before .before .pre), c .verdict-of .ensures, verdict-small (c .before .before .d2 .given .0 .0 .verdict))
 
 returns : tie.Need-returns
-returns c = search needs
+returns c = ap (λ (k : Numbered). k .number) (c .before .numbered .ensures) ∙ sym (ap packDecoded (c .before .before .before .d .given .1))
 
 returns-2 : tie.Need-returns-2
 returns-2 c = ap (λ (k : ℕ). 256 * k + 65536 * c .before .before .d2 .given .0 .0 .iterations + 4294967296 * c .before .before .d2 .given .0 .0 .unsatisfied) (c .verdict-of .ensures) ∙ sym (ap packDecoded (c .before .before .d2 .given .1))

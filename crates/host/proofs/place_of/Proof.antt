@@ -1,4 +1,7 @@
+use mathlib.Core.Path.{sym, ap, _∙_}
 use borrow.Author.Needs.{needs}
+use Rattle.rules.specs.declared.Numbered.{Numbered}
+use Rattle.host.specs.Packing.{placeOf}
 use Rattle.host.proofs.place_of.Statement.{statement}
 use Rattle.host.proofs.place_of.Tie as tie
 
@@ -15,7 +18,7 @@ returns : tie.Need-returns
 returns c = search needs
 
 returns-2 : tie.Need-returns-2
-returns-2 c = search needs
+returns-2 c = ap (λ (k : Numbered). k .place) (c .numbered .ensures) ∙ sym (ap placeOf (c .before .before .j .given .1))
 
 pub place-of-spec : {M : Type 1} → statement M
 place-of-spec = tie.close (tie.spec enum-told enum-known-j numbered-requires returns returns-2)

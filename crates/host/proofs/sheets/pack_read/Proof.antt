@@ -1,7 +1,8 @@
-use mathlib.Core.Path.{sym, ap, subst}
+use mathlib.Core.Path.{sym, ap, subst, _∙_}
 use native.Mathlib.Omega.{arith}
-use Rattle.host.specs.Packing.{SmallRead, packRead}
 use borrow.Author.Needs.{needs}
+use Rattle.rules.specs.declared.Numbered.{Numbered}
+use Rattle.host.specs.Packing.{SmallRead, packRead}
 use Rattle.host.proofs.sheets.pack_read.Statement.{statement}
 use Rattle.host.proofs.sheets.pack_read.Tie as tie
 
@@ -27,7 +28,7 @@ add-result : tie.Need-add-result
 add-result c = let h = subst SmallRead (c .before .s2 .given .1) (c .before .before .before .pre) in omega arith
 
 returns : tie.Need-returns
-returns c = search needs
+returns c = ap (λ (k : Numbered). k .number) (c .before .numbered .ensures) ∙ sym (ap packRead (c .before .before .before .s .given .1))
 
 returns-2 : tie.Need-returns-2
 returns-2 c = sym (ap packRead (c .before .s2 .given .1))

@@ -1,7 +1,8 @@
-use mathlib.Core.Path.{sym, ap, subst}
+use mathlib.Core.Path.{sym, ap, subst, _∙_}
 use native.Mathlib.Omega.{arith}
-use Rattle.host.specs.Packing.{SmallWritten, packWritten}
 use borrow.Author.Needs.{needs}
+use Rattle.rules.specs.declared.Numbered.{Numbered}
+use Rattle.host.specs.Packing.{SmallWritten, packWritten}
 use Rattle.host.proofs.sheets.pack_written.Statement.{statement}
 use Rattle.host.proofs.sheets.pack_written.Tie as tie
 
@@ -22,7 +23,7 @@ mul-result c =
     let h = subst SmallWritten (c .before .w2 .given .1) (c .before .before .before .pre) in omega arith
 
 returns : tie.Need-returns
-returns c = search needs
+returns c = ap (λ (k : Numbered). k .number) (c .before .numbered .ensures) ∙ sym (ap packWritten (c .before .before .before .w .given .1))
 
 returns-2 : tie.Need-returns-2
 returns-2 c = sym (ap packWritten (c .before .w2 .given .1))

@@ -53,6 +53,12 @@ enum-told-6 c = search needs
 enum-known-self-11 : tie.Need-enum-known-self-11
 enum-known-self-11 c = search needs
 
+enum-told-7 : tie.Need-enum-told-7
+enum-told-7 c = search needs
+
+enum-told-8 : tie.Need-enum-told-8
+enum-told-8 c = search needs
+
 returns : tie.Need-returns
 returns c = rw (c .before .self .given .1)
 
@@ -104,6 +110,12 @@ returns-16 c = rw (c .enum-told6 .given .1)
 returns-17 : tie.Need-returns-17
 returns-17 c = rw (c .before .self11 .given .1)
 
+returns-18 : tie.Need-returns-18
+returns-18 c = rw (c .enum-told7 .given .1)
+
+returns-19 : tie.Need-returns-19
+returns-19 c = rw (c .enum-told8 .given .1)
+
 pub numbered-spec : {M : Type 1} → statement M
 numbered-spec =
     tie.close
@@ -125,6 +137,8 @@ numbered-spec =
     enum-known-self-10
     enum-told-6
     enum-known-self-11
+    enum-told-7
+    enum-told-8
     returns
     returns-2
     returns-3
@@ -141,4 +155,6 @@ numbered-spec =
     returns-14
     returns-15
     returns-16
-    returns-17)
+    returns-17
+    returns-18
+    returns-19)

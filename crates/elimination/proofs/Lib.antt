@@ -1,0 +1,4 @@
+pub mod Systems
+pub mod Bytes
+pub mod Loops
+pub mod Steps

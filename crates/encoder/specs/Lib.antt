@@ -1,0 +1,4 @@
+pub mod Choosing
+pub mod Encoding
+pub mod Theorems
+pub mod Solving
