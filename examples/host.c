@@ -1,7 +1,7 @@
-/* Reads document 01's example sheet, decodes the example and three inputs near it on the lists that it gave, then a frame that stalls and
-   the same frame with lifting, and writes the sheet back, as a scanner's host would. Then a sheet that is refused, with its line. Then a
-   block sheet: its graph row by row, the same sheet written from its numbers, and one that is refused. Last, as a film writer would, codewords
-   that hold given bits, one of them decoded after noise, and bits that no codeword holds. */
+/* Reads document 01's example sheet, decodes the example and three inputs near it on the lists that it gave, then two blank frames, clear
+   leader among them, a frame that stalls and the same frame with lifting, and writes the sheet back, as a scanner's host would. Then a sheet
+   that is refused, with its line. Then a block sheet: its graph row by row, the same sheet written from its numbers, and one that is refused.
+   Last, as a film writer would, codewords that hold given bits, one of them decoded after noise, and bits that no codeword holds. */
 #include <stdio.h>
 #include <string.h>
 
@@ -24,6 +24,9 @@ static const uint8_t example[] = {0, 0, 0x20, 0x40, 0, 0, 0, 0xbf, 0, 0, 0xc0, 0
 static const uint8_t negated[] = {0, 0, 0x20, 0xc0, 0, 0, 0, 0x3f, 0, 0, 0xc0, 0xbf};
 /* 2.5, NaN, 1.5 */
 static const uint8_t damaged[] = {0, 0, 0x20, 0x40, 0, 0, 0xc0, 0x7f, 0, 0, 0xc0, 0x3f};
+/* Clear leader, which is unexposed film: +0.0 throughout. Then -0.0, 1.0 and -1.0: with a gain of 1 none is above the first threshold. */
+static const uint8_t leader[4 * VARIABLES] = {0};
+static const uint8_t unexposed[] = {0, 0, 0, 0x80, 0, 0, 0x80, 0x3f, 0, 0, 0x80, 0xbf};
 
 /* 3.5, -3.5, -3.5: levels +3, -3, -3. Variable 0 hears -3 in every iteration, which just balances its own level, so it keeps its sign and
    check 0 stays odd. Lifted to 4 the message outweighs the level. */
@@ -211,6 +214,8 @@ int main(void)
     decode(negated, 5);
     decode(example, 0);
     decode(damaged, 5);
+    decode(leader, 5);
+    decode(unexposed, 5);
     decode(stalled, 5);
     decode_lifted(stalled, 5, 3, 4);
     write_sheet();

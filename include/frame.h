@@ -41,6 +41,8 @@ enum { FRAME_NEVER = 256 };
    as magnitude `lift_to`, Nq + 1 to 15, in its variable's sums; where lift_from is FRAME_NEVER no message does, and any such lift_to gives the
    same run. The lists of messages hold what was sent.
 
+   A frame whose channel magnitudes are all 0, whatever the signs, is blank: unexposed film. It is not decoded; it gets 20.
+
    Lent: degrees, 4n bytes, as above; levels, n bytes; both message lists, E bytes each, in the columns' order; sums, 4n bytes (i32 in
    halves); bits, n bytes. A level or message is its magnitude, plus 128 when its sign is minus. Afterwards they hold those of the
    iteration where the run stopped, and bytes past these lengths are as they were. After a refusal every byte but the degrees' is as it was.
@@ -140,7 +142,7 @@ size_t frame_encode_place(size_t n, const uint8_t *starts, size_t starts_length,
    Of reading: 1 a line of another form, or a missing line or LF. Of block sheets: 17 a size of 0, or a shift not below the size.
    Of decode, encode and of writing a sheet: 7 starts not beginning at 0, one below the start before it, or not ending at E.
    Of decode: 8 precisions not admitted; 9 an offset above 1 or limit above 255; 16 lift_from or lift_to outside its bounds; 10 gain or variance
-   not finite and above zero, or another kind; 11 factor infinite or zero; 12 a value infinite or NaN; 13 other than n values.
+   not finite and above zero, or another kind; 11 factor infinite or zero; 12 a value infinite or NaN; 20 a blank frame; 13 other than n values.
    Of encode, where 2 is also n above 2,048 or m above 512: 18 a position not below n or not above its predecessor, or not as many positions as given
    bits; 15 a given byte not 0 or 1; 19 no codeword holds the given bits. */
 static inline unsigned frame_refusal(uint64_t answer) { return (unsigned)(answer & 255); }

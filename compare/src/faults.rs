@@ -1,10 +1,12 @@
 //! Decoders with one fault each. The harness must find every one, and none where there is
 //! none.
 
+mod blank;
 mod blocks;
 mod calls;
 mod encode;
 mod found;
+mod found_blank;
 mod found_blocks;
 mod found_encode;
 mod lifting;
@@ -14,6 +16,7 @@ use crate::paper::graph::odd_checks;
 use crate::paper::rules::{self, Offsets};
 use crate::paper::run::{Checked, check_settings};
 use crate::paper::{self, Graph, Level, Limits, Outcome, Refusal};
+use blank::Frame;
 use lifting::Sum;
 
 #[derive(Clone, Copy, Debug, PartialEq, Eq)]
@@ -147,6 +150,27 @@ enum Fault {
     DegreesChangedByTwo,
     DegreesLeftByWriting,
     DegreesLeftByWritingPlace,
+    // Blank frames.
+    BlankByFirst,
+    BlankByLast,
+    BlankWithoutLast,
+    BlankBy16Bits,
+    BlankBySome,
+    BlankDecoded,
+    ThresholdExposed,
+    PlusZeroAloneUnexposed,
+    ZeroAloneUnexposed,
+    UnscaledUnexposed,
+    UnexposedByGainAlone,
+    UnexposedByExactProduct,
+    SubnormalUnexposed,
+    MinusUnexposed,
+    TwentyAfterSix,
+    TwentyBeforeTwelve,
+    TwentyBeforeEleven,
+    TwentyBeforeThirteen,
+    TwentyWithPlace,
+    LevelBeforeTwenty,
 }
 
 struct Faulty(Fault);
@@ -178,8 +202,13 @@ impl Faulty {
         }
         self.admit_lifting(&mut settings);
         let decoded = paper::decode(Limits::LENT, &graph, &values, &settings, degrees, lent);
-        let refusal = match decoded {
-            Ok(_) => return Ok(self.run(&graph, &values, &check_settings(&settings)?, input)),
+        let mut said = decoded.map(|_| ());
+        if degrees.len() >= graph.n {
+            let (values, settings) = (&values[..], &settings);
+            said = self.near_20(said, &Frame { graph: &graph, values, settings, lent });
+        }
+        let refusal = match said {
+            Ok(()) => return Ok(self.run(&graph, &values, &check_settings(&settings)?, input)),
             Err(refusal) => refusal,
         };
         let needed = LentLengths::needed(graph.n, graph.entries());

@@ -1,5 +1,8 @@
 //! Seeded random inputs: graphs, settings, values, sheets and run texts, good and damaged.
 
+pub mod blank;
+pub mod blank_cases;
+pub mod blank_orders;
 pub mod block_limits;
 pub mod block_orders;
 pub mod block_strips;

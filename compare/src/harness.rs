@@ -16,6 +16,7 @@ pub use encode::is_decoded;
 pub use programs::{refusal_number, run_programs};
 pub use series::{Budget, Failure, Series};
 
+use crate::generate::blank_cases::{self, BLANK_STRIPS};
 use crate::generate::block_strips::{self, BLOCK_STRIPS};
 use crate::generate::cases::{self, Case};
 use crate::generate::encode_limits::{self, ENCODE_STRIPS};
@@ -30,7 +31,7 @@ use std::time::Instant;
 const INPUTS_BEFORE_LIMITS: u64 = 1_000;
 
 /// Inputs that come before the strips.
-const INPUTS_BEFORE_STRIPS: u64 = 6_000;
+const INPUTS_BEFORE_STRIPS: u64 = 8_000;
 
 /// All inputs of a seed, by number and without end.
 struct Inputs {
@@ -56,15 +57,20 @@ impl Inputs {
     }
 
     fn strip(&self, number: u64) -> Option<Case> {
-        let index = number.checked_sub(INPUTS_BEFORE_STRIPS)? as usize;
-        match index.checked_sub(STRIPS) {
-            None => Some(strip(self.seed, index)),
-            Some(index) if index < BLOCK_STRIPS => Some(block_strips::strip(self.seed, index)),
-            Some(index) => {
-                let index = index - BLOCK_STRIPS;
-                (index < ENCODE_STRIPS).then(|| encode_limits::strip(index))
-            }
+        let mut index = number.checked_sub(INPUTS_BEFORE_STRIPS)? as usize;
+        if index < STRIPS {
+            return Some(strip(self.seed, index));
         }
+        index -= STRIPS;
+        if index < BLOCK_STRIPS {
+            return Some(block_strips::strip(self.seed, index));
+        }
+        index -= BLOCK_STRIPS;
+        if index < ENCODE_STRIPS {
+            return Some(encode_limits::strip(index));
+        }
+        index -= ENCODE_STRIPS;
+        (index < BLANK_STRIPS).then(|| blank_cases::strip(index))
     }
 }
 
@@ -165,6 +171,19 @@ mod tests {
         for (number, expected) in (first..).zip([4, 2]) {
             let seen = check(&inputs.input(number), &Fast, number).unwrap();
             assert_eq!((seen.call, seen.refusal), ("encode", expected), "input {number}");
+        }
+    }
+
+    /// And of blank frames: nothing exposed, the last value, a NaN there, a short buffer.
+    #[test]
+    fn blank_strips_are_what_they_are_for() {
+        let first = INPUTS_BEFORE_STRIPS + (STRIPS + BLOCK_STRIPS + ENCODE_STRIPS) as u64;
+        let inputs = Inputs::of(3);
+        let expected = [20, 0, 12, 20];
+        assert_eq!(expected.len(), BLANK_STRIPS);
+        for (number, expected) in (first..).zip(expected) {
+            let seen = check(&inputs.input(number), &Fast, number).unwrap();
+            assert_eq!((seen.call, seen.refusal), ("decode", expected), "input {number}");
         }
     }
 }

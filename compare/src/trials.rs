@@ -14,13 +14,18 @@ const LONGEST: usize = 1_500;
 const ACCEPTED: usize = 30;
 const REFUSED: usize = 4;
 /// The numbers that the program can give, 0 standing for no refusal.
-const NUMBERS: [u8; 12] = [0, 1, 2, 3, 4, 5, 8, 9, 10, 11, 12, 14];
+const NUMBERS: [u8; 13] = [0, 1, 2, 3, 4, 5, 8, 9, 10, 11, 12, 14, 20];
 
 const SHEET: &str = "variables checks\n3 2\ncheck variable\n0 0\n0 1\n1 1\n1 2\n";
 const DEGREE_1: &str = "variables checks\n3 2\ncheck variable\n0 0\n0 1\n1 2\n";
 const EXAMPLE: [&str; 3] = ["40200000", "bf000000", "3fc00000"];
 const NEGATED: [&str; 3] = ["c0200000", "3f000000", "bfc00000"];
 const ZEROS: [&str; 3] = ["00000000"; 3];
+const MINUS_ZEROS: [&str; 3] = ["80000000"; 3];
+/// p is 1 throughout, which is not above the first threshold; then one value alone is.
+const AT_THRESHOLD: [&str; 3] = ["3f800000"; 3];
+const ONE_EXPOSED: [&str; 3] = ["3f800001", "00000000", "00000000"];
+const ONE_EXPOSED_MINUS: [&str; 3] = ["00000000", "bf800001", "3f800000"];
 
 type Trial = (Vec<u8>, Vec<u8>);
 
@@ -58,6 +63,10 @@ fn of_the_paper() -> Vec<Trial> {
         trial(SHEET, 5, NEGATED),
         trial(SHEET, 0, EXAMPLE),
         trial(SHEET, 5, ZEROS),
+        trial(SHEET, 5, MINUS_ZEROS),
+        trial(SHEET, 5, AT_THRESHOLD),
+        trial(SHEET, 5, ONE_EXPOSED),
+        trial(SHEET, 5, ONE_EXPOSED_MINUS),
         trial(SHEET, 255, EXAMPLE),
         trial(SHEET, 256, EXAMPLE),
         trial(DEGREE_1, 5, EXAMPLE),

@@ -98,14 +98,15 @@ fn called(call: usize, length: usize, graph: &Graph) -> Answer {
         2 => count_odd_checks(limits, graph, &[2, 2, 2], degrees).map(|_| ()),
         3 => decode(limits, graph, &[], &settings, degrees, &nothing).map(|_| ()),
         4 => decode(limits, graph, &[f32::NAN; 3], &settings, degrees, &nothing).map(|_| ()),
-        5 => decode(limits, graph, &[1.0; 3], &settings, degrees, &nothing).map(|_| ()),
+        5 => decode(limits, graph, &[2.0; 3], &settings, degrees, &nothing).map(|_| ()),
+        6 => decode(limits, graph, &[1.0; 3], &settings, degrees, &nothing).map(|_| ()),
         _ => write_sheet(limits, graph, degrees, 0).map(|_| ()),
     })
 }
 
 #[test]
 fn refusals_after_5_leave_the_degrees() {
-    let later = [(3, 9), (13, 0), (15, 0), (13, 0), (12, 0), (6, 0), (6, 0)];
+    let later = [(3, 9), (13, 0), (15, 0), (13, 0), (12, 0), (6, 0), (20, 0), (6, 0)];
     for (call, (number, place)) in later.into_iter().enumerate() {
         let graph = example_graph();
         let left = vec![1, 2, 1, BEFORE];

@@ -48,7 +48,7 @@ fn trial_values() {
     let negated = ["c0200000", "3f000000", "bfc00000"];
     assert_eq!(with_values(&negated), decoded("codeword 1 0", "111"));
     assert_eq!(with_settings("3f800000 3 3 1 1 0 0"), decoded("stopped 0 2", "010"));
-    assert_eq!(with_values(&["00000000"; 3]), decoded("codeword 0 0", "000"));
+    assert_eq!(with_values(&["00000000"; 3]), refused_as(20, 0));
     assert_eq!(with_settings("3f800000 3 3 1 1 0 255"), decoded("codeword 1 0", "000"));
     assert_eq!(with_settings("3f800000 3 3 1 1 0 256"), refused_as(9, 0));
 }
@@ -150,6 +150,8 @@ fn decode_refusals() {
     assert_eq!(printed(&[&run[..], &VALUES].concat()), refused_as(11, 0));
     assert_eq!(with_values(&["40200000", "bf000000", "7f800000"]), refused_as(12, 2));
     assert_eq!(with_values(&["40200000", "ffffffff", "7f800000"]), refused_as(12, 1));
+    assert_eq!(with_values(&["80000000", "00000000", "3f800000"]), refused_as(20, 0));
+    assert_eq!(with_values(&["80000000", "00000000", "7fc00000"]), refused_as(12, 2));
     // The run text's form comes before all of these.
     let text = [&[HEADER, "80000000 9 9 9 9 9 999", "value"], &VALUES[..2]].concat();
     assert_eq!(printed(&text), refused_as(14, 6));

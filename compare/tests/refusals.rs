@@ -288,8 +288,8 @@ fn gains_variances_and_kinds() {
         // In 10's place of the order: after 9.
         assert_eq!(decode_with(|s| (s.kind, s.limit) = (kind, 256)), refused(9, 0));
     }
-    // The smallest positive f32 is above zero.
-    assert!(decode_with(|s| s.gain = f32::from_bits(1)).is_ok());
+    // The smallest positive f32 is above zero, and exposes nothing.
+    assert_eq!(decode_with(|s| s.gain = f32::from_bits(1)), refused(20, 0));
 }
 
 #[test]
@@ -306,8 +306,8 @@ fn factors_infinite_or_zero() {
     assert_eq!(noise(f32::from_bits(1), f32::from_bits(0x7f000000)), refused(11, 0));
     // 2^-148 / 4 = 2^-150 is half of it, and the even neighbour is 0.
     assert_eq!(noise(f32::from_bits(1), 4.0), refused(11, 0));
-    // 2^-148 / 2 = 2^-149 is the smallest f32 itself.
-    assert!(noise(f32::from_bits(1), 2.0).is_ok());
+    // 2^-148 / 2 = 2^-149 is the smallest f32 itself; the frame is then blank.
+    assert_eq!(noise(f32::from_bits(1), 2.0), refused(20, 0));
     // Half the largest f32 can be doubled.
     assert!(noise(f32::MAX / 2.0, 1.0).is_ok());
     assert!(decode_with(|s| s.gain = f32::MAX).is_ok());

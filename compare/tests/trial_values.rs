@@ -58,10 +58,8 @@ fn example_with_limit_0() {
 
 #[test]
 fn example_all_plus_zero() {
-    let outcome = decode_freely(&example_graph(), &[0.0; 3], &example_settings()).unwrap();
-    assert_eq!(outcome.verdict, Verdict::Codeword);
-    assert_eq!((outcome.iterations, outcome.unsatisfied), (0, 0));
-    assert_eq!(outcome.bits, [0, 0, 0]);
+    let outcome = decode_freely(&example_graph(), &[0.0; 3], &example_settings());
+    assert_eq!(outcome, refused(20, 0));
 }
 
 #[test]
@@ -177,7 +175,8 @@ fn negative_zero_is_minus() {
     assert_eq!(quantise(2.5, 7, 0.0), plus(0));
     // Its bit at iteration 0 is 1.
     let settings = Settings { limit: 0, ..example_settings() };
-    let outcome = decode_freely(&example_graph(), &[0.0, -0.0, 0.0], &settings).unwrap();
+    let outcome = decode_freely(&example_graph(), &[2.0, -0.0, 0.0], &settings).unwrap();
+    assert_eq!(outcome.levels, [plus(1), minus(0), plus(0)]);
     assert_eq!(outcome.bits, [0, 1, 0]);
     assert_eq!(outcome.unsatisfied, 2);
 }

@@ -26,6 +26,12 @@ pub fn first_bad_value(values: &[[u8; 4]]) -> Option<usize> {
     values.iter().position(|&value| !f32::from_le_bytes(value).is_finite())
 }
 
+/// Whether every magnitude is 0: no product is above the first threshold. The first value that
+/// is exposed ends the search.
+fn is_blank(values: &[[u8; 4]], factor: f32) -> bool {
+    values.iter().all(|&value| factor * f32::from_le_bytes(value).abs() <= 1.0)
+}
+
 pub fn prepare<'a>(
     input: &DecodeInput<'a>,
     degrees: &'a mut [u8],
@@ -63,6 +69,9 @@ pub fn prepare<'a>(
     }
     if let Some(index) = first_bad_value(values) {
         return refuse(12, index);
+    }
+    if is_blank(values, factor) {
+        return refuse(20, 0);
     }
     let entries = columns.len();
     let long_enough = lent.levels.min(lent.bits).min(lent.sums / 4) >= n

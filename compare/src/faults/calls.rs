@@ -47,7 +47,7 @@ impl Faulty {
             (Fault::DegreesChangedByFour, 4) => degrees.fill(0),
             (Fault::DegreesChangedBySix, 6) if too_short => degrees.fill(0),
             (Fault::DegreesLeftAfterFive, 5) => degrees = numbers(bytes),
-            (Fault::DegreesLeftByLaterRefusals, 6 | 8..=13 | 16) => degrees = numbers(bytes),
+            (Fault::DegreesLeftByLaterRefusals, 6 | 8..=13 | 16 | 20) => degrees = numbers(bytes),
             (Fault::DegreesCountedPastN, 0 | 5 | 6) => {
                 if let Some(past) = n.and_then(|n| degrees.get_mut(n)) {
                     *past = 0;
@@ -126,6 +126,9 @@ impl Decoder for Faulty {
                 if self.has(Fault::WrittenWhenRefused) && refusal.number == 12 {
                     lent.levels.fill(0);
                 }
+                if self.has(Fault::LevelBeforeTwenty) && refusal.number == 20 {
+                    lent.levels.iter_mut().take(1).for_each(|level| *level ^= 128);
+                }
                 return Answer::Refused(refusal.number);
             }
         };
@@ -167,6 +170,7 @@ impl Decoder for Faulty {
             Ok(()) if number == 13 => values.len(),
             Ok(()) if number == 12 && self.has(Fault::LastBadValue) => last_bad_value(&values),
             Ok(()) if number == 16 && self.has(Fault::SixteenWithPlace) => 1,
+            Ok(()) if number == 20 && self.has(Fault::TwentyWithPlace) => 1,
             Ok(()) if number == 12 => values.iter().position(|v| !v.is_finite()).unwrap_or(0),
             Ok(()) => 0,
         }

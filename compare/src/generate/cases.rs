@@ -3,8 +3,8 @@
 use super::codewords::Codewords;
 use super::encoding::{self, EncodeCase};
 use super::{
-    Lists, block_limits, block_orders, blocks, damage, encode_limits, encode_orders, graphs,
-    lifting, limits, orders, refusals, settings, texts,
+    Lists, blank, blank_cases, blank_orders, block_limits, block_orders, blocks, damage,
+    encode_limits, encode_orders, graphs, lifting, limits, orders, refusals, settings, texts,
 };
 use crate::interface::{
     LentLengths, NEVER, NUMBER_BYTES, Settings, f32_bytes, f32_list, number_bytes, numbers,
@@ -91,7 +91,8 @@ impl WriteBlocksCase {
     }
 }
 
-/// An accepted decode and a word whose ones say which values are negated in its twin.
+/// A decode that is accepted, or whose frame is blank, and a word whose ones say which values are
+/// negated in its twin.
 #[derive(Clone, Debug)]
 pub struct TwinCase {
     pub decode: DecodeCase,
@@ -116,8 +117,9 @@ pub struct ProgramCase {
 }
 
 /// The inputs at the program's limits and one past them, every order of refusals around the
-/// list of degrees and of decode's others, every admitted W, and block sheets and the writing
-/// side by every pair of refusals and around every limit; they are in every series.
+/// list of degrees and of decode's others, every admitted W, block sheets and the writing side by
+/// every pair of refusals and around every limit, and blank frames at every precision and scaling
+/// and in every order; they are in every series.
 pub fn at_small_limits(random: &mut Random) -> Vec<Case> {
     let mut cases = orders::cases();
     cases.extend(refusals::cases());
@@ -143,6 +145,8 @@ pub fn at_small_limits(random: &mut Random) -> Vec<Case> {
     cases.extend(block_limits::cases());
     cases.extend(encode_orders::cases());
     cases.extend(encode_limits::cases(random));
+    cases.extend(blank_cases::cases());
+    cases.extend(blank_orders::cases());
     cases
 }
 
@@ -173,11 +177,17 @@ pub fn decode_case(lists: &Lists, values: &[f32], settings: Settings) -> DecodeC
     }
 }
 
-/// A decode of few iterations.
+/// The factor, or 1 where the settings are turned down.
+pub fn factor_of(settings: &Settings) -> f32 {
+    check_settings(settings).map_or(1.0, |checked| checked.factor)
+}
+
+/// A decode of few iterations, with something exposed.
 pub fn short_decode(random: &mut Random, lists: &Lists) -> DecodeCase {
-    let values = settings::values(random, lists.n, 1.0);
+    let mut values = settings::values(random, lists.n, 1.0);
     let mut settings = Settings { limit: 3, ..settings::good(random) };
     lifting::lift(random, &mut settings);
+    blank::cure(&mut random.clone(), &mut values, factor_of(&settings));
     decode_case(lists, &values, settings)
 }
 
@@ -254,8 +264,8 @@ fn any_decode(random: &mut Random) -> DecodeCase {
     if random.one_in(5) {
         (0..random.between(1, 2)).for_each(|_| settings::damage(random, &mut settings));
     }
-    let factor = check_settings(&settings).map_or(1.0, |checked| checked.factor);
-    let mut values = settings::values(random, lists.n, factor);
+    let factor = factor_of(&settings);
+    let mut values = any_values(random, lists.n, factor);
     if random.one_in(16) {
         settings::spoil_values(random, &mut values);
     }
@@ -271,6 +281,19 @@ fn any_decode(random: &mut Random) -> DecodeCase {
         lifting::lift_around_stop(random, &mut case);
     }
     case
+}
+
+/// Values for a factor. One frame in sixteen is blank or nearly so; of the others most that come
+/// out blank are cured. This is chosen beside the values, so that it changes no other frame.
+fn any_values(random: &mut Random, count: usize, factor: f32) -> Vec<f32> {
+    let chosen = &mut random.clone();
+    let mut values = settings::values(random, count, factor);
+    match chosen.below(16) {
+        0 => return blank::values(chosen, count, factor),
+        1 | 2 => {}
+        _ => blank::cure(chosen, &mut values, factor),
+    }
+    values
 }
 
 fn any_write(random: &mut Random) -> WriteCase {
@@ -302,18 +325,19 @@ fn any_twin(random: &mut Random) -> TwinCase {
     let lists = graphs::any(random);
     let mut case = any_twin_of(random, &lists);
     if random.one_in(3) {
-        let flipped = random.below(lists.n);
-        case.word[flipped] ^= 1;
+        case.word[random.below(lists.n)] ^= 1;
+    } else if random.one_in(6) {
+        case.word.fill_with(|| random.below(2) as u8);
     }
     case
 }
 
-/// A decode that is accepted, mostly with lifting on, and a codeword.
+/// A decode that is accepted, mostly with lifting on, or blank, and a codeword.
 fn any_twin_of(random: &mut Random, lists: &Lists) -> TwinCase {
     let mut settings = settings::good(random);
     lifting::lift(random, &mut settings);
-    let factor = check_settings(&settings).map_or(1.0, |checked| checked.factor);
-    let values = settings::values(random, lists.n, factor);
+    let factor = factor_of(&settings);
+    let values = any_values(random, lists.n, factor);
     let word = Codewords::new(lists).random(random);
     let mut decode = decode_case(lists, &values, settings);
     if random.one_in(4) {
@@ -358,8 +382,8 @@ pub fn any_program(random: &mut Random) -> ProgramCase {
         (0..random.between(1, 2)).for_each(|_| texts::damage(Limits::PROGRAM, random, &mut code));
     }
     let settings = texts::run_settings(random);
-    let factor = check_settings(&settings).map_or(1.0, |checked| checked.factor);
-    let mut values = settings::values(random, lists.n, factor);
+    let factor = factor_of(&settings);
+    let mut values = any_values(random, lists.n, factor);
     if random.one_in(10) {
         settings::spoil_values(random, &mut values);
     }

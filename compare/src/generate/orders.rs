@@ -59,11 +59,12 @@ fn lengths(n: usize) -> [usize; 6] {
     [0, needed - NUMBER_BYTES, needed - 1, needed, needed + 3, needed + NUMBER_BYTES]
 }
 
-/// Nothing else wrong; 13, 9, 12 and the last 6.
+/// Nothing else wrong; 13, 9, 12, 20 and the last 6.
 fn decodes(lists: &Lists, degrees: usize) -> impl Iterator<Item = DecodeCase> {
-    let good = DecodeCase { degrees, ..decode_case(lists, &vec![1.0; lists.n], SETTINGS) };
+    let good = DecodeCase { degrees, ..decode_case(lists, &vec![2.0; lists.n], SETTINGS) };
     let with_values = |values: &[f32]| DecodeCase { values: f32_bytes(values), ..good.clone() };
-    let too_few = with_values(&vec![1.0; lists.n - 1]);
+    let too_few = with_values(&vec![2.0; lists.n - 1]);
+    let blank = with_values(&vec![1.0; lists.n]);
     let not_a_number = with_values(&vec![f32::NAN; lists.n]);
     let settings = Settings { phi_s: 2, ..SETTINGS };
     let lent = LentLengths { bits: lists.n - 1, ..good.lent };
@@ -73,6 +74,7 @@ fn decodes(lists: &Lists, degrees: usize) -> impl Iterator<Item = DecodeCase> {
         good,
         too_few,
         not_a_number,
+        blank,
     ]
     .into_iter()
 }

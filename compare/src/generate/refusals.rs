@@ -7,8 +7,8 @@ use super::settings::{PRECISIONS, plain};
 use crate::interface::{LARGEST_LIFT, NEVER, f32_bytes};
 use crate::paper::quantiser::largest_magnitude;
 
-/// The order in which they are looked for: "16, directly after 9".
-const ORDER: [u8; 8] = [13, 8, 9, 16, 10, 11, 12, 6];
+/// The order in which they are looked for: "16, directly after 9", and 20 "after 12 and before 6".
+const ORDER: [u8; 9] = [13, 8, 9, 16, 10, 11, 12, 20, 6];
 
 /// A refusal's number, and a change that brings it about beside any other.
 type Fault = (u8, Box<dyn Fn(&mut DecodeCase)>);
@@ -17,7 +17,8 @@ fn fault(number: u8, change: impl Fn(&mut DecodeCase) + 'static) -> Fault {
     (number, Box::new(change))
 }
 
-/// Everything but 16.
+/// Everything but 16. Of two faults the later one's change is made first: a blank frame may then
+/// be cut or spoilt.
 fn others() -> Vec<Fault> {
     vec![
         fault(13, |case| case.values.truncate(8)),
@@ -35,6 +36,9 @@ fn others() -> Vec<Fault> {
         fault(12, |case| case.values[..4].copy_from_slice(&f32_bytes(&[f32::NAN]))),
         fault(6, |case| case.lent.bits -= 1),
         fault(6, |case| case.lent.check_messages = 0),
+        fault(20, |case| case.values = f32_bytes(&[-0.0, 0.0, -0.0])),
+        // With a factor of 1, at the first threshold.
+        fault(20, |case| case.values = f32_bytes(&[1.0, -1.0, 1.0])),
     ]
 }
 

@@ -98,7 +98,7 @@ pub fn damage(random: &mut Random, settings: &mut Settings) {
 }
 
 /// Finite channel values for a factor: a noisy frame, or values that the quantiser may
-/// trip over, or both.
+/// trip over, or both. Some frames are blank.
 pub fn values(random: &mut Random, count: usize, factor: f32) -> Vec<f32> {
     let style = random.below(6);
     let noise = random.pick(&[0.3, 0.6, 0.8, 1.0, 1.5]);

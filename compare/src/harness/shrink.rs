@@ -308,14 +308,15 @@ fn values_of(case: &Case) -> Vec<f32> {
     decode_of(case).map_or(Vec::new(), |decode| f32_list(&decode.values))
 }
 
-/// These values as +0.0 or, where that is tried one by one, as 1.0 of their sign.
+/// These values as +0.0 or, where that is tried one by one, as 2.0 of their sign, which a factor of
+/// 1 exposes.
 fn with_plainer_values(case: &Case, part: Range<usize>) -> Option<Case> {
     let mut values = values_of(case);
     let single = part.len() == 1;
     for value in &mut values[part] {
         *value = match value.abs() {
-            1.0 | 0.0 => 0.0,
-            _ if single => 1.0_f32.copysign(*value),
+            2.0 | 0.0 => 0.0,
+            _ if single => 2.0_f32.copysign(*value),
             _ => 0.0,
         };
     }

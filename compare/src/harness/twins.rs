@@ -1,6 +1,7 @@
 //! Twin runs: values negated where a codeword is 1 give the mirrored run, by the decoder
 //! alone, with lifting off and on: "the codeword symmetry include[s] lifting". Where the word is
-//! no codeword, some iteration limit shows a difference.
+//! no codeword, some iteration limit shows a difference. Any word leaves a blank frame blank, and
+//! makes no other frame blank.
 
 use super::series::Seen;
 use crate::generate::cases::{DecodeCase, TwinCase};
@@ -9,10 +10,12 @@ use crate::interface::{
 };
 use crate::paper::{Graph, Limits, count_odd_checks};
 
+/// The number that a blank frame gets.
+const BLANK: u8 = 20;
+
 /// What a run reports and leaves behind.
 struct Run {
     decoded: Decoded,
-    degrees: Vec<u8>,
     levels: Vec<u8>,
     variable_messages: Vec<u8>,
     check_messages: Vec<u8>,
@@ -24,50 +27,53 @@ pub fn check_twin(case: &TwinCase, decoder: &dyn Decoder) -> Result<Seen, String
     let decode = &case.decode;
     let (starts, columns) = (numbers(&decode.starts), numbers(&decode.columns));
     let graph = Graph { n: decode.n, starts: &starts, columns: &columns };
-    let seen = |call| Ok(Seen { call, refusal: 0, iterations: None });
+    let seen = |call, refusal| Ok(Seen { call, refusal, iterations: None });
     let degrees = &mut numbers(&lent_bytes(decode.degrees));
     let Ok(odd_checks) = count_odd_checks(Limits::LENT, &graph, &case.word, degrees) else {
-        return seen("no twin");
+        return seen("no twin", 0);
     };
     let degrees = &number_bytes(degrees);
     if odd_checks == 0 {
-        let (run, twin) = twin_runs(decode.settings.limit, case, degrees, decoder)?;
+        let Some((run, twin)) = twin_runs(decode.settings.limit, case, degrees, decoder)? else {
+            return seen("twin", BLANK);
+        };
         mirrors(&run, &twin, &case.word, &columns)?;
-        return seen("twin");
+        return seen("twin", 0);
     }
     // A check that is odd in the word turns its messages the other way in iteration 1,
     // unless one of the runs has stopped before.
     for limit in 0..=1 {
-        let (run, twin) = twin_runs(limit, case, degrees, decoder)?;
+        let Some((run, twin)) = twin_runs(limit, case, degrees, decoder)? else {
+            return seen("twin by no codeword", BLANK);
+        };
         if mirrors(&run, &twin, &case.word, &columns).is_err() {
-            return seen("twin by no codeword");
+            return seen("twin by no codeword", 0);
         }
     }
     Err("the run is mirrored by a word that is no codeword".to_string())
 }
 
-/// The run on the values, and the run on the values negated where the word is 1. Both count
-/// the same degrees.
+/// The run on the values, and the run on the values negated where the word is 1, or nothing where
+/// both frames are blank. Both count the same degrees.
 fn twin_runs(
     limit: u32,
     case: &TwinCase,
     degrees: &[u8],
     decoder: &dyn Decoder,
-) -> Result<(Run, Run), String> {
+) -> Result<Option<(Run, Run)>, String> {
     let settings = Settings { limit, ..case.decode.settings };
     let values = &case.decode.values;
     let mut negated = values.clone();
     for (value, &bit) in negated.chunks_exact_mut(4).zip(&case.word) {
         value[3] ^= bit << 7;
     }
-    let run_on = |values: &[u8]| {
-        let run = run(&case.decode, values, settings, decoder)?;
-        match run.degrees.starts_with(degrees) {
-            true => Ok(run),
-            false => Err("a twin run leaves other degrees".to_string()),
-        }
-    };
-    Ok((run_on(values)?, run_on(&negated)?))
+    let run_on = |values: &[u8]| run(&case.decode, values, settings, degrees, decoder);
+    match (run_on(values)?, run_on(&negated)?) {
+        (Some(run), Some(twin)) => Ok(Some((run, twin))),
+        (None, None) => Ok(None),
+        (Some(_), None) => Err("reversing signs makes a blank of a twin run".to_string()),
+        (None, Some(_)) => Err("reversing signs cures a blank of a twin run".to_string()),
+    }
 }
 
 /// The bytes of a buffer before it is lent.
@@ -75,12 +81,14 @@ fn lent_bytes(length: usize) -> Vec<u8> {
     vec![0x55; length]
 }
 
+/// A run, or nothing where the frame is blank.
 fn run(
     case: &DecodeCase,
     values: &[u8],
     settings: Settings,
+    counted: &[u8],
     decoder: &dyn Decoder,
-) -> Result<Run, String> {
+) -> Result<Option<Run>, String> {
     let [mut levels, mut variable_messages, mut check_messages, mut sums, mut bits] =
         case.lent.as_array().map(lent_bytes);
     let mut degrees = lent_bytes(case.degrees);
@@ -96,12 +104,22 @@ fn run(
             bits: &mut bits,
         },
     );
-    match answer {
-        Answer::Accepted(decoded) => {
-            Ok(Run { decoded, degrees, levels, variable_messages, check_messages, sums, bits })
-        }
-        other => Err(format!("a twin run is answered {other:?}")),
+    let decoded = match answer {
+        Answer::Accepted(decoded) => Some(decoded),
+        Answer::Refused(BLANK) => None,
+        other => return Err(format!("a twin run is answered {other:?}")),
+    };
+    if !degrees.starts_with(counted) {
+        return Err("a twin run leaves other degrees".to_string());
     }
+    let Some(decoded) = decoded else {
+        let lists = [levels, variable_messages, check_messages, sums, bits];
+        return match lists.iter().all(|list| *list == lent_bytes(list.len())) {
+            true => Ok(None),
+            false => Err("a blank twin run changes what it was lent".to_string()),
+        };
+    };
+    Ok(Some(Run { decoded, levels, variable_messages, check_messages, sums, bits }))
 }
 
 /// Whether two runs of the same graph and settings mirror each other by the word.

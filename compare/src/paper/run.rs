@@ -50,10 +50,25 @@ pub fn decode(
     if let Some(index) = values.iter().position(|value| !value.is_finite()) {
         return refuse(12, index);
     }
+    let levels = channel_levels(values, &checked);
+    if is_blank(&levels) {
+        return refuse(20, 0);
+    }
     if !lent.covers(&LentLengths::needed(graph.n, graph.entries())) {
         return refuse(6, 0);
     }
-    Ok(run(graph, values, &checked))
+    Ok(run(graph, levels, &checked))
+}
+
+/// The level of each channel value.
+fn channel_levels(values: &[f32], settings: &Checked) -> Vec<Level> {
+    values.iter().map(|&y| quantise(settings.factor, settings.nch, y)).collect()
+}
+
+/// "A frame whose channel magnitudes are all 0 is now blank and isn't decoded", whatever the
+/// signs. "It refuses a blank frame with 20, after 12 and before 6."
+fn is_blank(levels: &[Level]) -> bool {
+    levels.iter().all(|level| level.magnitude == 0)
 }
 
 /// 8, 9, 16, 10 and 11, in that order.
@@ -111,12 +126,10 @@ fn scaling(settings: &Settings) -> Result<Scaling, Refusal> {
 
 /// "The run stops after the bits of the first iteration, 0 included, that are a codeword,
 /// [...] otherwise at the limit."
-fn run(graph: &Graph, values: &[f32], settings: &Checked) -> Outcome {
+fn run(graph: &Graph, levels: Vec<Level>, settings: &Checked) -> Outcome {
     let nothing = Level { minus: false, magnitude: 0 };
     let entries_of_variables = graph.entries_of_variables();
 
-    let channel = |&y: &f32| quantise(settings.factor, settings.nch, y);
-    let levels: Vec<Level> = values.iter().map(channel).collect();
     let sent = |&variable: &u32| first_message(levels[variable as usize], settings.nq);
     let mut variable_messages: Vec<Level> = graph.columns.iter().map(sent).collect();
     let mut check_messages = vec![nothing; graph.entries()];

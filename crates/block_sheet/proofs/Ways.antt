@@ -1,6 +1,6 @@
 -- Each way out after the last line gives what the definition says of the answer and of the lists.
 use mathlib.Core.Path.{_≡_, refl, sym, ap, _∙_}
-use mathlib.Core.Bool.{Bool, false, true, _&&_}
+use mathlib.Core.Bool.{true}
 use mathlib.Core.List.{List}
 use Prim.Native.Nat.{ℕ, suc, _*_, _/_, _≤_, _<_}
 use native.Mathlib.Nat.{add-zero}
@@ -14,7 +14,7 @@ use Rattle.rules.specs.declared.Refusal.{Refusal}
 use Rattle.rules.specs.declared.Refusal.the-variants.{Buffer}
 use Rattle.rules.specs.declared.Judged.{Judged}
 use Rattle.rules.specs.declared.Judged.the-variants as Judgement
-use Rattle.rules.proofs.Judging.{orElse-left, orElse-right, unless-true, and-left, and-right}
+use Rattle.rules.proofs.Judging.{orElse-left, orElse-right, unless-true, and-left, and-right, and-no}
 use Rattle.words.specs.Roles.{wide}
 use Rattle.graph.specs.Judging.{checkDegreesJudged, variableDegreesJudged, degreesJudged}
 use Rattle.graph.specs.Degrees.{Judges}
@@ -29,10 +29,6 @@ use Rattle.block_text.proofs.Rows.{part-div, part-below}
 use Rattle.block_text.proofs.Degrees.{degrees}
 use Rattle.block_degrees.specs.Counting.{Judgeable}
 use Rattle.block_sheet.specs.Storing.{blocksFrom, BlocksAt}
-
-and-no : (a : Bool) → a && false ≡ false
-and-no true = refl
-and-no false = refl
 
 module _ {t : List ℕ} {k : Counts} {at : ℕ} (h : BlocksAt t k at) where
   abbrev b : Blocks

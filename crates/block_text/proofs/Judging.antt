@@ -1,6 +1,6 @@
 -- What the tests of line 2 and of an entry mean, and that numbers kept up to the cap are judged alike.
 use mathlib.Core.Path.{_≡_, refl, sym, ap, ap₂, _∙_}
-use mathlib.Core.Bool.{Bool, true, false, _&&_}
+use mathlib.Core.Bool.{Bool, _&&_}
 use Prim.Native.Nat.{ℕ, zero, suc, _+_, _*_, _≤_, _<_, min}
 use native.Mathlib.Decide.{decLt}
 use native.Mathlib.Nat.{mul-zero, zero-mul, mul-le-mul}
@@ -12,7 +12,7 @@ use Rattle.rules.specs.Refusals.{unless, orElse}
 use Rattle.rules.specs.declared.Refusal.the-variants.{Count, Range, Order, Shift}
 use Rattle.rules.specs.declared.Judged.{Judged}
 use Rattle.rules.specs.declared.Judged.the-variants.{Admitted}
-use Rattle.rules.proofs.Judging.{orElse-left, orElse-right, orElse-both, unless-true}
+use Rattle.rules.proofs.Judging.{orElse-left, orElse-right, orElse-both, unless-true, and-no}
 use Rattle.lines.specs.Lines.{Pair, pair}
 use Rattle.lines.specs.Places.{cap}
 use Rattle.sheet_text.specs.Reading.{countsFit, notBefore, after}
@@ -69,10 +69,6 @@ module _ (c : Triple) where
       )
 
 -- ---- numbers kept up to the cap
-
-and-no : (a : Bool) → a && false ≡ false
-and-no true = refl
-and-no false = refl
 
 capped-product : (x y : ℕ) → min (min x cap * min y cap) cap ≡ min (x * y) cap
 capped-product x y = go x y (decLt x cap) (decLt y cap)

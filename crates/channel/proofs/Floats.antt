@@ -13,6 +13,10 @@ use Rattle.channel.specs.Quantiser.{signBit, size}
 
 -- ---- the code's constants and comparisons
 
+pub one-is : ofBits binary32 0x3f80_0000 ≡ whole 1
+unfolding ofBits ofInt
+one-is = refl
+
 pub two-is : ofBits binary32 0x4000_0000 ≡ whole 2
 unfolding ofBits ofInt
 two-is = refl

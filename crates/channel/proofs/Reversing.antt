@@ -10,18 +10,21 @@ use lib.Dec.{eqb}
 use lib.Ieee.{Float, nan, inf, fin, binary32, neg, ofBits}
 use lib.Ieee.Scale.{finite}
 use lib.ListN.{length, getD, List·getD-eq-default}
+use Rattle.rules.specs.Levels.{blank}
 use Rattle.rules.specs.Refusals.{unless, orElse, each}
 use Rattle.rules.specs.Symmetry.{turned}
 use Rattle.rules.specs.declared.Refusal.the-variants.{Value}
 use Rattle.rules.specs.declared.Judged.the-variants.{Admitted}
 use Rattle.rules.proofs.Ranges.{fold-ext, length-tabulate, getD-tabulate}
 use Rattle.rules.proofs.Judging.{all-true}
+use Rattle.rules.proofs.Blanks.{blank-same}
 use Rattle.words.specs.Roles.{patternAt, valueAt}
 use Rattle.words.proofs.Words.{word-ext, word-last, word-bound}
 use Rattle.words.proofs.Patterns.{pattern-turned}
 use Rattle.channel.specs.Quantiser.{levelFor}
+use Rattle.channel.specs.Values.{channelLevel}
 use Rattle.channel.specs.Reversal.{Bytes, reversedByte, reversed}
-use Rattle.channel.specs.Theorems.{ReversedJudged, ReversedLevels}
+use Rattle.channel.specs.Theorems.{ReversedJudged, ReversedLevels, ReversedBlank}
 use Rattle.channel.proofs.Floats.{neg-neg, finite-neg, pattern-neg}
 
 -- ---- one value
@@ -44,6 +47,14 @@ negated-level N factor false (fin true m e) h = refl
 negated-level N factor false (fin false m e) h = refl
 negated-level N factor true (fin true m e) h = refl
 negated-level N factor true (fin false m e) h = refl
+
+-- the magnitude is kept of a value that is not finite too
+negated-magnitude : (N : ℕ) (factor : Float) (b : Bool) (y : Float) → levelFor N factor (negated b y) .magnitude ≡ levelFor N factor y .magnitude
+unfolding levelFor neg
+negated-magnitude N factor false y = refl
+negated-magnitude N factor true nan = refl
+negated-magnitude N factor true (inf s) = refl
+negated-magnitude N factor true (fin s m e) = refl
 
 -- ---- the bytes
 
@@ -122,3 +133,9 @@ pub reversed-levels : ReversedLevels
 reversed-levels c values ok good N factor v u =
     ap (levelFor N factor) (value-reversed c values ok v u)
     ∙ negated-level N factor (c v) (valueAt values v) (all-true (λ v. finite (valueAt values v)) Value (length values / 4) good v u)
+
+pub reversed-blank : ReversedBlank
+reversed-blank c values ok N factor =
+    ap (λ n. blank (channelLevel N factor (reversed c values)) (n / 4)) (length-reversed c values)
+    ∙ blank-same (channelLevel N factor values) (channelLevel N factor (reversed c values)) (length values / 4)
+    (λ v u. ap (λ y. levelFor N factor y .magnitude) (value-reversed c values ok v u) ∙ negated-magnitude N factor (c v) (valueAt values v))

@@ -15,7 +15,7 @@ use Rattle.channel.specs.declared.Checked.the-variants.{Good}
 use Rattle.channel.specs.Scaling.{positive}
 use Rattle.channel.specs.Quantiser.{levelFor}
 use Rattle.channel.specs.Settings.{largestLift, judgedWith, settingsJudged, settings, settingsOf}
-use Rattle.channel.specs.Values.{valuesJudged, channelLevel}
+use Rattle.channel.specs.Values.{valuesJudged, channelLevel, blankValues}
 use Rattle.channel.specs.Reversal.{Bytes, reversed}
 
 -- 'b bits allow magnitudes 0 to N.'
@@ -47,3 +47,7 @@ abbrev pub ReversedLevels : Type 0
 ReversedLevels = (c : ℕ → Bool) (values : List ℕ) → Bytes values → valuesJudged values ≡ Admitted
     → (N : ℕ) (factor : Float) (v : ℕ) → v < length values / 4
     → channelLevel N factor (reversed c values) v ≡ turned (c v) (channelLevel N factor values v)
+
+-- They are blank where the values are, whatever the values and c.
+abbrev pub ReversedBlank : Type 0
+ReversedBlank = (c : ℕ → Bool) (values : List ℕ) → Bytes values → (N : ℕ) (factor : Float) → blankValues N factor (reversed c values) ≡ blankValues N factor values

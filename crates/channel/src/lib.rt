@@ -1,14 +1,15 @@
 // The settings, and the quantiser of channel values.
 ghost use mathlib.Core.Path.{_≡_};
-ghost use mathlib.Core.Bool.{cond};
-ghost use Prim.Native.Nat.{_<_, _≤_, min};
+ghost use mathlib.Core.Bool.{cond, not};
+ghost use Prim.Native.Nat.{ℕ, _<_, _≤_, min};
+ghost use lib.Dec.{eqb};
 ghost use lib.Ieee.{binary32, ofBits};
 ghost use lib.Ieee.Scale.{finite};
 ghost use Rattle.rules.specs.Levels.{byte, largest};
 ghost use Rattle.channel.specs.Scaling.{positive, factorOf, scalingAdmitted};
 ghost use Rattle.channel.specs.Quantiser.{signBit, size, wholesBelow, levelFor};
 ghost use Rattle.channel.specs.Settings.{precisionsAdmitted, optionsAdmitted, liftingAdmitted, settingsOf};
-ghost use Rattle.channel.specs.Values.{valuesJudged, quantised};
+ghost use Rattle.channel.specs.Values.{valuesJudged, blankValues, quantised};
 use rules::Judged;
 use rules::Refusal;
 
@@ -235,6 +236,28 @@ pub fn check_values(values: &[u8]) -> Judged
         v += 1;
     }
     Judged::Admitted
+}
+
+// Whether the magnitude of y is above 0: its product lies above the first threshold.
+fn is_exposed(factor: f32, y: f32) -> bool
+    ensures { λ r. ⌜ ((N : ℕ) → 1 ≤ N → N < 128 → r ≡ not (eqb (levelFor N factor y .magnitude) 0)) ⌝ }
+{
+    1.0 < factor * size_of(y)
+}
+
+// Whether all magnitudes are 0, by every precision alike: looks for the first that is above.
+pub fn is_blank(values: &[u8], factor: f32) -> bool
+    ensures { λ r. ⌜ ((N : ℕ) → 1 ≤ N → N < 128 → r ≡ blankValues N factor (now (values .entry))) ⌝ }
+{
+    let n = values.len() / 4;
+    let mut v = 0;
+    while v < n {
+        if is_exposed(factor, words::value(values, v)) {
+            return false;
+        }
+        v += 1;
+    }
+    true
 }
 
 fn smaller(a: usize, b: usize) -> usize

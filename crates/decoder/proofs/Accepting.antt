@@ -1,21 +1,23 @@
 -- The refusals of decode, in their order.
 use mathlib.Core.Path.{_≡_, refl, sym, ap, _∙_, subst}
-use mathlib.Core.Bool.{true, false}
+use mathlib.Core.Bool.{Bool, true, false, not}
 use mathlib.Core.List.{List}
-use Prim.Native.Nat.{ℕ, _*_, _/_, _≤_}
+use Prim.Native.Nat.{ℕ, _*_, _/_, _≤_, _<_}
 use native.Mathlib.Omega.{arith}
 use borrow.Author.Tests.{eq-eqb, ne-eqb, eqb-true, leb-true}
 use lib.Dec.{eqb, leb}
 use lib.ListN.{length}
+use Rattle.rules.specs.Levels.{largest}
 use Rattle.rules.specs.Graphs.{limits}
 use Rattle.rules.specs.Refusals.{unless, orElse}
 use Rattle.rules.specs.declared.Judged.{Judged}
 use Rattle.rules.specs.declared.Judged.the-variants.{Admitted, Refused}
 use Rattle.rules.specs.declared.Refusal.{Refusal}
-use Rattle.rules.specs.declared.Refusal.the-variants.{Length, Buffer}
-use Rattle.rules.proofs.Judging.{and-left, and-right, orElse-left, orElse-right, unless-true}
+use Rattle.rules.specs.declared.Refusal.the-variants.{Length, Blank, Buffer}
+use Rattle.rules.proofs.Judging.{and-left, and-right, orElse-left, orElse-right, orElse-none, unless-true}
+use Rattle.rules.proofs.Own.{largest-within, largest-some}
 use Rattle.rules.specs.declared.Report.{Report}
-use Rattle.graph.specs.Judging.{graphJudged, graphJudgedIn}
+use Rattle.graph.specs.Judging.{graphJudgedIn}
 use Rattle.graph.specs.Degrees as Lent
 use Rattle.graph.proofs.Wider.{found-before}
 use Rattle.graph.proofs.Lending.{lent-admitted, lent-counted}
@@ -24,9 +26,9 @@ use Rattle.channel.specs.declared.Checked.{Checked}
 use Rattle.channel.specs.declared.Checked.the-variants as Checks
 use Rattle.channel.specs.Settings.{settings, settingsJudged, checked, settingsOf}
 use Rattle.channel.proofs.Accepted.{good-settings}
-use Rattle.channel.specs.Values.{valuesJudged}
+use Rattle.channel.specs.Values.{valuesJudged, blankValues}
 use Rattle.decoder.specs.declared.Room.{Room}
-use Rattle.decoder.specs.Decoding.{Frame, Memory, roomOf, graph, enough, askedJudged, frameJudged, decodeJudged, decodeFinds, decoded, memoryAfter, Accepts, Decodes, AsBefore}
+use Rattle.decoder.specs.Decoding.{Frame, Memory, roomOf, graph, enough, askedJudged, isBlank, frameJudged, decodeJudged, decodeFinds, decoded, memoryAfter, Accepts, Decodes, AsBefore, ExposedAsBefore}
 use Rattle.decoder.specs.Steps.{Degrees, Ready}
 use Rattle.decoder.specs.declared.Decoded.the-variants as Answers
 use Rattle.decoder.proofs.Beginning.{RunsInto, counted-degrees}
@@ -46,9 +48,20 @@ module _ (F : Frame) where
 
 -- where g is found of the graph, up to the memory
 module _ (F : Frame) (g : Judged) where
-  pub frame-asked : {j : Judged} → g ≡ Admitted → askedJudged F ≡ j → frameJudged F g ≡ j
+  pub frame-asked : {r : Refusal} → g ≡ Admitted → askedJudged F ≡ Refused r → frameJudged F g ≡ Refused r
   unfolding frameJudged
   frame-asked a h = rw (a, h)
+
+  -- what is left is the exposure
+  pub frame-exposed : {b : Bool} → g ≡ Admitted → askedJudged F ≡ Admitted → isBlank F ≡ b → frameJudged F g ≡ unless (not b) Blank
+  unfolding frameJudged
+  frame-exposed a h e = rw (a, h, e)
+
+  pub frame-passed : frameJudged F g ≡ Admitted → (g ≡ Admitted) × (askedJudged F ≡ Admitted)
+  unfolding frameJudged
+  frame-passed h =
+      let exposed = unless (not (isBlank F)) Blank in
+      (orElse-left g (orElse (askedJudged F) exposed) h, orElse-left (askedJudged F) exposed (orElse-right g (orElse (askedJudged F) exposed) h))
 
   module _ (m : Room) where
     pub graph-refused : {r : Refusal} → g ≡ Refused r → decodeJudged F g m ≡ Refused r
@@ -77,6 +90,11 @@ accepts-as F m k h q = record { answer = q ∙ ap (λ j. checked j (settings (F 
 pub as-before : AsBefore
 as-before F d m o = ap (λ g. decodeJudged F g m) (found-before (graph F) d o)
 
+-- and what is not blank is judged as before there was 20
+pub exposed-as-before : ExposedAsBefore
+unfolding frameJudged
+exposed-as-before F g e = rw e (ap (orElse g) (orElse-none (askedJudged F)))
+
 -- what the answer of the settings' check tells
 pub checked-refused : (j : Judged) (s : Settings) {r : Refusal} → checked j s ≡ Checks.Refused r → j ≡ Refused r
 checked-refused Admitted s h = let z : _≡_ {A = ℕ} 0 1 = cc in absurd (omega arith)
@@ -85,6 +103,16 @@ checked-refused (Refused x) s h = ap Refused (cc)
 pub checked-good : (j : Judged) (s : Settings) {t : Settings} → checked j s ≡ Checks.Good t → j ≡ Admitted
 checked-good Admitted s h = refl
 checked-good (Refused x) s h = let z : _≡_ {A = ℕ} 0 1 = cc in absurd (omega arith)
+
+-- the test of the values under settings that were checked
+pub blank-told : (F : Frame) {s : Settings} {b : Bool} → settingsOf (F .asked) ≡ Checks.Good s
+    → ((N : ℕ) → 1 ≤ N → N < 128 → b ≡ blankValues N (s .factor) (F .values)) → isBlank F ≡ b
+blank-told F {s} {b} e told =
+    let good = good-settings (F .asked) s e in
+    let bits : s .channel ≡ F .asked .channel = ap (λ (t : Settings). t .channel) (good .0) in
+    let N : ℕ = largest (F .asked .channel) in
+    ap (λ (t : Settings). blankValues N (t .factor) (F .values)) (sym (good .0))
+    ∙ sym (told N (largest-some (F .asked .channel) (omega (arith, good .1 .channel))) (omega (arith, largest-within (F .asked .channel) (omega (arith, good .1 .channel)))))
 
 -- what memory that is long enough has
 pub enough-told : (n E : ℕ) (m : Room) → enough n E m ≡ true → (n ≤ m .levels) × (E ≤ m .«variable_messages») × (E ≤ m .«check_messages») × (4 * n ≤ m .sums) × (n ≤ m .bits)
@@ -100,12 +128,6 @@ enough-told n E m h =
     )
 
 -- ---- what an accepted frame tells
-
-pub record Told (F : Frame) : Type 0 where
-  pub graph : graphJudged limits (graph F) ≡ Admitted
-  pub count : length (F .values) / 4 ≡ F .variables
-  pub settings : settingsJudged (F .asked) ≡ Admitted
-  pub values : valuesJudged (F .values) ≡ Admitted
 
 pub asked-told : (F : Frame) → askedJudged F ≡ Admitted → (length (F .values) / 4 ≡ F .variables) × (settingsJudged (F .asked) ≡ Admitted) × (valuesJudged (F .values) ≡ Admitted)
 asked-told F h = (
@@ -128,12 +150,6 @@ asked-told F h = (
 
     others : Judged
     others = orElse s v
-
-pub frame-told : (F : Frame) → frameJudged F (graphJudged limits (graph F)) ≡ Admitted → Told F
-unfolding frameJudged
-frame-told F h =
-    let a = asked-told F (orElse-right (graphJudged limits (graph F)) (askedJudged F) h) in
-    record { graph = orElse-left (graphJudged limits (graph F)) (askedJudged F) h; count = a .0; settings = a .1; values = a .2 }
 
 pub memory-told : (F : Frame) (g : Judged) (m : Room) → decodeJudged F g m ≡ Admitted → (frameJudged F g ≡ Admitted) × (enough (F .variables) (graph F .entries) m ≡ true)
 unfolding decodeJudged
@@ -169,18 +185,17 @@ module _ (F : Frame) (M : Memory) {d d′ : List ℕ} {a : Checked} (accepts : A
     told : (frameJudged F (graphJudgedIn limits (graph F) (length d)) ≡ Admitted) × (enough (F .variables) (graph F .entries) (roomOf M) ≡ true)
     told = memory-told F (graphJudgedIn limits (graph F) (length d)) (roomOf M) admitted
 
-    graphed : graphJudgedIn limits (graph F) (length d) ≡ Admitted
-    unfolding frameJudged
-    graphed = orElse-left (graphJudgedIn limits (graph F) (length d)) (askedJudged F) (told .0)
+    passed : (graphJudgedIn limits (graph F) (length d) ≡ Admitted) × (askedJudged F ≡ Admitted)
+    passed = frame-passed F (graphJudgedIn limits (graph F) (length d)) (told .0)
 
     -- what the run asks
     pub decode-ready : Ready s (graph F) (F .values)
-    unfolding frameJudged settingsOf
+    unfolding settingsOf
     decode-ready =
-        let asked = asked-told F (orElse-right (graphJudgedIn limits (graph F) (length d)) (askedJudged F) (told .0)) in
+        let asked = asked-told F (passed .1) in
         subst (λ t. Ready t (graph F) (F .values)) same (record {
           settings = good-settings (F .asked) (settings (F .asked)) (ap (λ j. checked j (settings (F .asked))) (asked .1)) .1;
-          admitted = lent-admitted (graph F) (length d) graphed;
+          admitted = lent-admitted (graph F) (length d) (passed .0);
           count = asked .0;
           finite = asked .2;
         })
@@ -190,7 +205,7 @@ module _ (F : Frame) (M : Memory) {d d′ : List ℕ} {a : Checked} (accepts : A
 
     pub decode-degrees : Degrees (graph F) d′
     decode-degrees =
-        counted-degrees (graph F) _ (lent-admitted (graph F) (length d) graphed) (lent-counted limits (graph F) (length d) d graphed (accepts .degrees))
+        counted-degrees (graph F) _ (lent-admitted (graph F) (length d) (passed .0)) (lent-counted limits (graph F) (length d) d (passed .0) (accepts .degrees))
 
     pub decodes-ran : {M′ : Memory} {r : Report} → RunsInto s (graph F) (F .values) r M M′ → Decodes F M M′ d d′ (Answers.Ran r)
     decodes-ran {M′} {r} w = record {

@@ -1,6 +1,6 @@
--- Document 01, 'Decode', and document 02, items 1 and 9: what is refused, what is answered, and what the lent memory then holds.
+-- Document 01, 'Decode', and document 02, items 1, 4 and 9: what is refused, what is answered, and what the lent memory then holds.
 use mathlib.Core.Path.{_≡_}
-use mathlib.Core.Bool.{Bool, _&&_}
+use mathlib.Core.Bool.{Bool, false, not, _&&_}
 use mathlib.Core.List.{List, _++_, map}
 use Prim.Native.Nat.{ℕ, _*_, _/_}
 use lib.Dec.{eqb, leb}
@@ -14,7 +14,7 @@ use Rattle.rules.specs.Sequence.{Scheme, State, unlifted, signPreserving, final
 use Rattle.rules.specs.Refusals.{unless, orElse}
 use Rattle.rules.specs.declared.Judged.{Judged}
 use Rattle.rules.specs.declared.Judged.the-variants as Judgement
-use Rattle.rules.specs.declared.Refusal.the-variants.{Length, Buffer}
+use Rattle.rules.specs.declared.Refusal.the-variants.{Length, Blank, Buffer}
 use Rattle.words.specs.Roles.{sumTable, graphOf}
 use Rattle.graph.specs.Judging.{graphJudged, countable, graphJudgedIn}
 use Rattle.graph.specs.Degrees.{degreesIn}
@@ -23,7 +23,7 @@ use Rattle.channel.specs.declared.Parameters.{Parameters}
 use Rattle.channel.specs.declared.Checked.{Checked}
 use Rattle.channel.specs.Scaling.{factorOf}
 use Rattle.channel.specs.Settings.{largestLift, settings, judgedWith, settingsJudged, checked}
-use Rattle.channel.specs.Values.{valuesJudged, channelLevel}
+use Rattle.channel.specs.Values.{valuesJudged, channelLevel, blankValues}
 use Rattle.decoder.specs.declared.Room.{Room}
 use Rattle.decoder.specs.declared.Decoded.{Decoded}
 use Rattle.decoder.specs.declared.Decoded.the-variants.{Ran, Refused}
@@ -96,9 +96,13 @@ module _ (F : Frame) where
       (orElse (settingsJudged (F .asked))
       (valuesJudged (F .values)))
 
-  -- 'The graph's ..', where g is what is found of the graph, then these.
+  -- 'A frame whose channel magnitudes are all 0 is now blank.'
+  abbrev pub isBlank : Bool
+  isBlank = blankValues (largest (F .asked .channel)) (factorOf (F .asked .scaling)) (F .values)
+
+  -- 'The graph's ..', where g is what is found of the graph, then these; then 20, a blank frame, 'after 12 and before 6'.
   unfoldable pub frameJudged : Judged → Judged
-  frameJudged g = orElse g askedJudged
+  frameJudged g = orElse g (orElse askedJudged (unless (not isBlank) Blank))
 
   -- '6, a lent buffer too short.'
   unfoldable pub decodeJudged : Judged → Room → Judged
@@ -142,3 +146,8 @@ pub record NothingLifted (F : Frame) : Type 0 where
 
 abbrev pub UnliftedAsBefore : Type 0
 UnliftedAsBefore = (F : Frame) → F .asked .«lift_from» ≡ never → NothingLifted F
+
+-- Document 02, item 4: what is not blank is judged as it was before there was 20, whatever is found of the graph. Answer and memory are functions
+-- of this, of the lent lengths, the rules and the levels.
+abbrev pub ExposedAsBefore : Type 0
+ExposedAsBefore = (F : Frame) (g : Judged) → isBlank F ≡ false → frameJudged F g ≡ orElse g (askedJudged F)

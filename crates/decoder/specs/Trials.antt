@@ -1,24 +1,28 @@
--- Document 01, 'Trial values': every ★ case, the trial of document 02, item 1, and the whole example with its variants from their values,
--- gathered under one table test.
+-- Document 01, 'Trial values': every ★ case, the trial of document 02, item 1, and the whole example with its variants from their values, blank
+-- ones among them, gathered under one table test.
 use mathlib.Core.Bool.{Bool, true, false}
 use mathlib.Core.List.{List, [], _∷_, _++_, map}
 use Prim.Native.Nat.{ℕ}
 use lib.Ieee.{binary32, ofBits}
 use Rattle.rules.specs.Tables.{AllPass, sameList}
-use Rattle.rules.specs.Sequence.{final, report}
+use Rattle.rules.specs.Graphs.{limits}
+use Rattle.rules.specs.Sequence.{final}
 use Rattle.rules.specs.Nodes.{never}
 use Rattle.rules.specs.Trials as Nodes
 use Rattle.rules.specs.Trials.{verdictNumber, bitNumbers}
-use Rattle.rules.specs.declared.Report.{Report}
+use Rattle.rules.specs.Refusals.{paper}
 use Rattle.rules.specs.declared.Verdict.{Verdict}
 use Rattle.rules.specs.declared.Verdict.the-variants.{Codeword, Stopped}
 use Rattle.words.specs.Words.{bytes}
 use Rattle.words.specs.Roles.{wide}
+use Rattle.graph.specs.Judging.{graphJudged}
 use Rattle.channel.specs.declared.Scaling.the-variants.{Plain}
 use Rattle.channel.specs.Settings.{largestLift}
 use Rattle.channel.specs.Trials as Levels
-use Rattle.decoder.specs.Decoding.{Frame, graph, scheme}
+use Rattle.decoder.specs.Decoding.{Frame, graph, scheme, frameJudged, decoded}
 use Rattle.decoder.specs.Frames.{frame}
+use Rattle.decoder.specs.declared.Decoded.{Decoded}
+use Rattle.decoder.specs.declared.Decoded.the-variants.{Ran, Refused}
 
 pub data Trial : Type 0 where
   -- a channel value and its level
@@ -27,6 +31,8 @@ pub data Trial : Type 0 where
   node : Nodes.Trial → Trial
   -- the example's graph and settings with these values, as bit patterns, and this limit: verdict, iterations, unsatisfied checks, bits
   decodes : List ℕ → ℕ → Verdict → ℕ → ℕ → List Bool → Trial
+  -- the same, refused: number and place
+  refuses : List ℕ → ℕ → ℕ → ℕ → Trial
 
 -- Numbers as bytes, lowest first.
 unfoldable pub inBytes : ℕ → List ℕ → List ℕ
@@ -55,16 +61,32 @@ trials =
     (decodes (0x4020_0000 ∷ 0xbf00_0000 ∷ 0x3fc0_0000 ∷ []) 5 Codeword 1 0 (false ∷ false ∷ false ∷ [])
     ∷ decodes (0xc020_0000 ∷ 0x3f00_0000 ∷ 0xbfc0_0000 ∷ []) 5 Codeword 1 0 (true ∷ true ∷ true ∷ [])
     ∷ decodes (0x4020_0000 ∷ 0xbf00_0000 ∷ 0x3fc0_0000 ∷ []) 0 Stopped 0 2 (false ∷ true ∷ false ∷ [])
-    ∷ decodes (0 ∷ 0 ∷ 0 ∷ []) 5 Codeword 0 0 (false ∷ false ∷ false ∷ [])
+    -- all +0.0, all -0.0, and all at the first threshold
+    ∷ refuses (0 ∷ 0 ∷ 0 ∷ []) 5 20 0
+    ∷ refuses (0x8000_0000 ∷ 0x8000_0000 ∷ 0x8000_0000 ∷ []) 5 20 0
+    ∷ refuses (0x3f80_0000 ∷ 0xbf80_0000 ∷ 0x3f80_0000 ∷ []) 5 20 0
+    -- one magnitude of 1
+    ∷ decodes (0xbf80_0001 ∷ 0 ∷ 0 ∷ []) 5 Codeword 2 0 (true ∷ true ∷ true ∷ [])
+    ∷ decodes (0 ∷ 0 ∷ 0x3f80_0001 ∷ []) 5 Codeword 0 0 (false ∷ false ∷ false ∷ [])
+    -- 12 comes first
+    ∷ refuses (0 ∷ 0x7f80_0000 ∷ 0 ∷ []) 5 12 1
     ∷ []))
+
+-- What decode answers, lent long enough buffers: the verdict, iterations and unsatisfied checks, or the refusal's number and place.
+unfoldable pub answered : Decoded → List ℕ
+answered (Ran r) = verdictNumber (r .verdict) ∷ r .iterations ∷ r .unsatisfied ∷ []
+answered (Refused r) = paper r .number ∷ paper r .place ∷ []
+
+unfoldable pub answer : Frame → List ℕ
+answer F = answered (decoded F (frameJudged F (graphJudged limits (graph F))))
 
 unfoldable pub passes : Trial → Bool
 passes (value t) = Levels.passes t
 passes (node t) = Nodes.passes t
 passes (decodes values limit verdict t u b) =
     let F : Frame = example values limit in
-    let r : Report = report (graph F) (scheme F) limit in
-    sameList (verdictNumber (r .verdict) ∷ r .iterations ∷ r .unsatisfied ∷ bitNumbers (final (graph F) (scheme F) limit .bits)) (verdictNumber verdict ∷ t ∷ u ∷ bitNumbers b)
+    sameList (answer F ++ bitNumbers (final (graph F) (scheme F) limit .bits)) (verdictNumber verdict ∷ t ∷ u ∷ bitNumbers b)
+passes (refuses values limit number place) = sameList (answer (example values limit)) (number ∷ place ∷ [])
 
 abbrev pub TrialsPass : Type 0
 TrialsPass = AllPass passes trials

@@ -143,14 +143,19 @@ pub fn accept(
         return Checked::Refused(Refusal::Length(count));
     }
     let c = channel::check_settings(asked);
-    if let Checked::Refused(r) = c {
-        return Checked::Refused(r);
-    }
+    let Checked::Good(s) = c else {
+        return c;
+    };
     let j = channel::check_values(values);
     if let Judged::Refused(r) = j {
         return Checked::Refused(r);
     }
-    if !long_enough(n, columns.len() / words::WIDE, room) {
+    let blank = channel::is_blank(values, s.factor);
+    let enough = long_enough(n, columns.len() / words::WIDE, room);
+    if blank {
+        return Checked::Refused(Refusal::Blank);
+    }
+    if !enough {
         return Checked::Refused(Refusal::Buffer);
     }
     c

@@ -12,6 +12,7 @@ use lib.Dec.{eqb}
 use Rattle.rules.specs.Graphs.{Graph, Admitted, checkDegree, oddCheck}
 use Rattle.rules.specs.Ranges.{fold}
 use Rattle.rules.proofs.Rows.{rowed, row-entries}
+use Rattle.rules.proofs.Judging.{and-no}
 use Rattle.rules.proofs.Signs.{xor-false, xor-self}
 use Rattle.elimination.specs.Systems.{broken, Solves, top, replaced, Reduced}
 use Rattle.elimination.specs.Rows.{rowsIn}
@@ -29,11 +30,7 @@ module _ {S : (ℕ → Bool) → Type 0} {g : Given} {m n i : ℕ} {R : ℕ → 
     where
       go : (v : ℕ) → v < n → (b : Bool) → x v ≡ b → (R i v && b) ≡ false
       go v u true e = ap (λ t. t && true) (F .later i v (omega arith) l u e)
-      go v u false e = no (R i v)
-        where
-          no : (a : Bool) → (a && false) ≡ false
-          no true = refl
-          no false = refl
+      go v u false e = and-no (R i v)
 
   pub filling-skip : R i n ≡ false → Filling S g m n (suc i) R x
   filling-skip e = record {

@@ -16,7 +16,7 @@ use Rattle.rules.specs.declared.Refusal.{Refusal}
 use Rattle.rules.specs.declared.Refusal.the-variants as R
 use Rattle.rules.specs.declared.Judged.{Judged}
 use Rattle.rules.specs.declared.Judged.the-variants.{Admitted, Refused}
-use Rattle.rules.proofs.Judging.{refused-not, each-from}
+use Rattle.rules.proofs.Judging.{refused-not, orElse-left, orElse-none, each-from}
 use Rattle.words.specs.Roles.{valueAt}
 use Rattle.graph.specs.Judging.{graphJudgedIn}
 use Rattle.graph.proofs.Lending.{lent-admitted}
@@ -29,7 +29,7 @@ use Rattle.channel.specs.Scaling.{factorOf, positive, scalingAdmitted, infinite
 use Rattle.channel.specs.Settings.{largestLift, precisionsAdmitted, optionsAdmitted, liftingAdmitted, settings, settingsJudged}
 use Rattle.channel.specs.Values.{valuesJudged}
 use Rattle.decoder.specs.declared.Room.{Room}
-use Rattle.decoder.specs.Decoding.{Frame, graph, enough, frameJudged, decodeJudged, decodeFinds, decoded, Accepts}
+use Rattle.decoder.specs.Decoding.{Frame, graph, enough, isBlank, frameJudged, decodeJudged, decodeFinds, decoded, Accepts}
 use Rattle.decoder.proofs.Accepting.{checked-refused, checked-good}
 use Rattle.host.specs.Packing.{packDecoded, numberOf, placeOf, placesJudged, decodePlace, TellsPlace, askedOf}
 use Rattle.host.specs.Theorems.{PlacesTold}
@@ -38,10 +38,6 @@ use Rattle.host.specs.Theorems.{PlacesTold}
 pub record Placeless (r : Refusal) : Type 0 where
   pub twelve : eqb 12 (paper r .number) ≡ false
   pub place : paper r .place ≡ 0
-
-orElse-none : (j : Judged) → orElse j Admitted ≡ j
-orElse-none Admitted = refl
-orElse-none (Refused r) = refl
 
 same : {r s : Refusal} → Refused r ≡ Refused s → r ≡ s
 same {r} {s} e = cc
@@ -77,17 +73,18 @@ none-placed : (t : Bool) → _≡_ {A = ℕ} (cond t 0 0) 0
 none-placed true = refl
 none-placed false = refl
 
--- the graph's g, the count's test t, the settings' s, the values' v and the memory's test e, in decode's order
-in-order : (k : ℕ) (g : Judged) (t : Bool) (s v : Judged) (e : Bool) → ((r : Refusal) → s ≡ Refused r → Placeless r) → ((r : Refusal) → v ≡ Refused r → paper r .number ≡ 12)
-    → let j : Judged = orElse (orElse g (orElse (unless t (R.Length k)) (orElse s v))) (unless e R.Buffer) in
+-- the graph's g, the count's test t, the settings' s, the values' v, the exposure's test b and the memory's test e, in decode's order
+in-order : (k : ℕ) (g : Judged) (t : Bool) (s v : Judged) (b e : Bool) → ((r : Refusal) → s ≡ Refused r → Placeless r) → ((r : Refusal) → v ≡ Refused r → paper r .number ≡ 12)
+    → let j : Judged = orElse (orElse g (orElse (orElse (unless t (R.Length k)) (orElse s v)) (unless b R.Blank))) (unless e R.Buffer) in
     let i : Judged = orElse g (orElse (unless t (R.Length k)) v) in cond (eqb (numberOf i) (numberOf j)) (placeOf i) 0 ≡ placeOf j
-in-order k (Refused r) t s v e p q = placed (Refused r) (paper r .number) refl
-in-order k Admitted false s v e p q = refl
-in-order k Admitted true (Refused r) Admitted e p q = none-placed (eqb 0 (paper r .number)) ∙ sym (p r refl .place)
-in-order k Admitted true (Refused r) (Refused x) e p q = rw (q x refl, p r refl .twelve) (sym (p r refl .place))
-in-order k Admitted true Admitted (Refused r) e p q = placed (Refused r) (paper r .number) refl
-in-order k Admitted true Admitted Admitted false p q = refl
-in-order k Admitted true Admitted Admitted true p q = refl
+in-order k (Refused r) t s v b e p q = placed (Refused r) (paper r .number) refl
+in-order k Admitted false s v b e p q = refl
+in-order k Admitted true (Refused r) Admitted b e p q = none-placed (eqb 0 (paper r .number)) ∙ sym (p r refl .place)
+in-order k Admitted true (Refused r) (Refused x) b e p q = rw (q x refl, p r refl .twelve) (sym (p r refl .place))
+in-order k Admitted true Admitted (Refused r) b e p q = placed (Refused r) (paper r .number) refl
+in-order k Admitted true Admitted Admitted false e p q = refl
+in-order k Admitted true Admitted Admitted true false p q = refl
+in-order k Admitted true Admitted Admitted true true p q = refl
 
 number-small : (r : Refusal) → paper r .number % 256 ≡ paper r .number
 number-small (R.Form p) = refl
@@ -109,6 +106,7 @@ number-small R.Lifting = refl
 number-small (R.Shift p) = refl
 number-small R.Positions = refl
 number-small R.NoCodeword = refl
+number-small R.Blank = refl
 
 -- the lowest byte of the answer is the number
 number-packed : (F : Frame) (j : Judged) → packDecoded (decoded F j) % 256 ≡ numberOf j
@@ -120,7 +118,7 @@ unfolding decodeJudged frameJudged
 places-told F d m =
     rw (number-packed F (decodeFinds F d m))
     (in-order (length (F .values) / 4) (graphJudgedIn limits (graph F) d) (eqb (length (F .values) / 4) (F .variables)) (settingsJudged (F .asked)) (valuesJudged (F .values))
-    (enough (F .variables) (graph F .entries) m) (settings-placeless (F .asked)) (values-twelve (F .values)))
+    (not (isBlank F)) (enough (F .variables) (graph F .entries) m) (settings-placeless (F .asked)) (values-twelve (F .values)))
 
 -- ---- accepted with settings that are in order, and enough memory
 
@@ -142,43 +140,66 @@ ample = record {
 ample-enough : (n E : ℕ) → n ≤ limits .variables → E ≤ limits .entries → enough n E ample ≡ true
 ample-enough n E p q = rw (le-leb n (limits .variables) p, le-leb E (limits .entries) q, le-leb (4 * n) (4 * limits .variables) (omega arith))
 
+-- then only a blank frame is refused beside what has a place
 module _ (F : Frame) (d : ℕ) (good : settingsJudged (F .asked) ≡ Admitted) where
-  pub only-places : decodeFinds F d ample ≡ placesJudged (graph F) (F .values) d
+  only-places : decodeFinds F d ample ≡ orElse (placesJudged (graph F) (F .values) d) (unless (not (isBlank F)) R.Blank)
   unfolding decodeJudged frameJudged
   only-places = rw good (go (graphJudgedIn limits (graph F) d) refl)
     where
-      rest : Judged
-      rest = orElse (unless (eqb (length (F .values) / 4) (F .variables)) (R.Length (length (F .values) / 4))) (valuesJudged (F .values))
+      given : Judged
+      given = orElse (unless (eqb (length (F .values) / 4) (F .variables)) (R.Length (length (F .values) / 4))) (valuesJudged (F .values))
 
-      go : (g : Judged) → graphJudgedIn limits (graph F) d ≡ g → orElse (orElse g rest) (unless (enough (F .variables) (graph F .entries) ample) R.Buffer) ≡ orElse g rest
+      exposed : Judged
+      exposed = unless (not (isBlank F)) R.Blank
+
+      go : (g : Judged) → graphJudgedIn limits (graph F) d ≡ g
+          → orElse (orElse g (orElse given exposed)) (unless (enough (F .variables) (graph F .entries) ample) R.Buffer) ≡ orElse (orElse g given) exposed
       go (Refused r) h = refl
       go Admitted h =
           let a = lent-admitted (graph F) d h in
-          rw (ample-enough (F .variables) (graph F .entries) (a .variables .1) (a .entries)) (orElse-none rest)
+          rw (ample-enough (F .variables) (graph F .entries) (a .variables .1) (a .entries)) (orElse-none (orElse given exposed))
+
+-- what is found of the places, by a refusal that may also be of a blank frame
+module _ (b : Bool) {r : Refusal} where
+  its-place : (f : Judged) → orElse f (unless b R.Blank) ≡ Refused r → cond (eqb (numberOf f) (paper r .number)) (placeOf f) 0 ≡ paper r .place
+  its-place (Refused x) h = rw (same h, eq-eqb (paper r .number) (paper r .number) refl)
+  its-place Admitted h = go b h
+    where
+      go : (t : Bool) → unless t R.Blank ≡ Refused r → cond (eqb 0 (paper r .number)) 0 0 ≡ paper r .place
+      go true q = absurd (refused-not (sym q))
+      go false q = rw (← same q)
+
+  another-place : (f : Judged) {number : ℕ} → orElse f (unless b R.Blank) ≡ Refused r → (paper r .number ≡ number → ⊥) → cond (eqb (numberOf f) number) (placeOf f) 0 ≡ 0
+  another-place (Refused x) {number} h n = rw (same h, ne-eqb (paper r .number) number n)
+  another-place Admitted {number} h n = none-placed (eqb 0 number)
 
 -- what the companion promises, from what `accept` answers
 module _ (F : Frame) {a : Checked} {old now : List ℕ} (accepts : Accepts F ample a old now) (good : settingsJudged (F .asked) ≡ Admitted) where
   abbrev found : Judged
   found = placesJudged (graph F) (F .values) (length old)
 
-  finds : {j : Judged} → decodeFinds F (length old) ample ≡ j → found ≡ j
+  finds : {j : Judged} → decodeFinds F (length old) ample ≡ j → orElse found (unless (not (isBlank F)) R.Blank) ≡ j
   finds h = sym (only-places F (length old) good) ∙ h
 
-  refused : {r : Refusal} → a ≡ Checks.Refused r → found ≡ Refused r
+  refused : {r : Refusal} → a ≡ Checks.Refused r → orElse found (unless (not (isBlank F)) R.Blank) ≡ Refused r
   refused e = finds (checked-refused (decodeFinds F (length old) ample) (settings (F .asked)) (sym (accepts .answer) ∙ e))
 
   abbrev Tells : ℕ → ℕ → Type 0
   Tells number r = TellsPlace (graph F) (decodePlace (graph F) (F .values) (length old) number) old now r
 
   pub of-its-number : {r : Refusal} {number place : ℕ} → a ≡ Checks.Refused r → paper r .number ≡ number → place ≡ paper r .place → Tells number place
-  of-its-number {r} {number} e n q = record { answer = q ∙ sym (rw (refused e, eq-eqb (paper r .number) number n)); degrees = accepts .degrees }
+  of-its-number {r} {number} e n q = record {
+    answer = q ∙ sym (its-place (not (isBlank F)) found (refused e)) ∙ ap (λ k. cond (eqb (numberOf found) k) (placeOf found) 0) n;
+    degrees = accepts .degrees;
+  }
 
   pub of-another : {r : Refusal} {number : ℕ} → a ≡ Checks.Refused r → (paper r .number ≡ number → ⊥) → Tells number 0
-  of-another {r} {number} e n = record { answer = rw (refused e, ne-eqb (paper r .number) number n); degrees = accepts .degrees }
+  of-another e n = record { answer = sym (another-place (not (isBlank F)) found (refused e) n); degrees = accepts .degrees }
 
   pub of-none : {s : Settings} (number : ℕ) → a ≡ Checks.Good s → Tells number 0
   of-none {s} number e = record {
     answer =
-        rw (finds (checked-good (decodeFinds F (length old) ample) (settings (F .asked)) (sym (accepts .answer) ∙ e))) (sym (none-placed (eqb 0 number)));
+        let none : found ≡ Admitted = orElse-left found _ (finds (checked-good (decodeFinds F (length old) ample) (settings (F .asked)) (sym (accepts .answer) ∙ e))) in
+        rw none (sym (none-placed (eqb 0 number)));
     degrees = accepts .degrees;
   }

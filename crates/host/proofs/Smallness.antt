@@ -8,7 +8,6 @@ use Rattle.rules.specs.Graphs.{limits, unsatisfied, oddCheck}
 use Rattle.rules.specs.Sequence.{bitAt, state, unsatisfiedIn, stop, report}
 use Rattle.rules.specs.declared.Judged.{Judged}
 use Rattle.rules.specs.declared.Judged.the-variants.{Admitted, Refused}
-use Rattle.rules.proofs.Judging.{orElse-left, orElse-right}
 use Rattle.rules.proofs.Ranges.{count-le}
 use Rattle.rules.proofs.Stops.{run-stops}
 use Rattle.graph.specs.Judging.{graphJudgedIn}
@@ -20,8 +19,8 @@ use Rattle.rules.specs.declared.Verdict.{Verdict}
 use Rattle.rules.specs.declared.Verdict.the-variants.{Codeword, Stopped}
 use Rattle.decoder.specs.declared.Decoded.{Decoded}
 use Rattle.decoder.specs.declared.Room.{Room}
-use Rattle.decoder.specs.Decoding.{Frame, Memory, Decodes, graph, scheme, askedJudged, frameJudged, decodeFinds, decoded}
-use Rattle.decoder.proofs.Accepting.{asked-told, memory-told}
+use Rattle.decoder.specs.Decoding.{Frame, Memory, Decodes, graph, scheme, decodeFinds, decoded}
+use Rattle.decoder.proofs.Accepting.{frame-passed, asked-told, memory-told}
 use Rattle.host.specs.Packing.{Small, verdictOf, packDecoded, HostDecodes}
 
 unsatisfied-small : (F : Frame) (t : ℕ) → Graphs.Admitted (graph F) → unsatisfiedIn (graph F) (scheme F) t ≤ limits .checks
@@ -34,14 +33,13 @@ unfolding settingsOf
 limit-small F h = good-settings (F .asked) (settings (F .asked)) (ap (λ j. checked j (settings (F .asked))) h) .1 .limit
 
 pub decoded-small : (F : Frame) (d : ℕ) (m : Room) (j : Judged) → decodeFinds F d m ≡ j → Small (decoded F j)
-unfolding report frameJudged
+unfolding report
 decoded-small F d m (Refused r) h = omega arith
 decoded-small F d m Admitted h =
     let g = graphJudgedIn limits (graph F) d in
-    let ok = memory-told F g m h .0 in
-    let asked = asked-told F (orElse-right g (askedJudged F) ok) in (
-      omega (arith, run-stops (graph F) (scheme F) (F .asked .limit) .within, limit-small F (asked .1)),
-      unsatisfied-small F (stop (graph F) (scheme F) (F .asked .limit)) (lent-admitted (graph F) d (orElse-left g (askedJudged F) ok)),
+    let passed = frame-passed F g (memory-told F g m h .0) in (
+      omega (arith, run-stops (graph F) (scheme F) (F .asked .limit) .within, limit-small F (asked-told F (passed .1) .1)),
+      unsatisfied-small F (stop (graph F) (scheme F) (F .asked .limit)) (lent-admitted (graph F) d (passed .0)),
     )
 
 pub verdict-small : (v : Verdict) → verdictOf v ≤ 1

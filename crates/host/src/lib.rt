@@ -125,7 +125,8 @@ pub extern "C" fn frame_decode(
 }
 
 // The place of what `frame_decode` refuses of this graph, with this list of degrees, and these values, where its number is `refusal`; 0 where
-// that is 0. Asked with settings that are in order and memory enough for every graph, decode refuses nothing else that has no place.
+// that is 0. Asked with settings that are in order and memory enough for every graph, decode refuses, beside
+// the graph's, 13 and 12, only a blank frame, whose place is 0.
 #[no_mangle]
 pub extern "C" fn frame_decode_place(
     n: usize,

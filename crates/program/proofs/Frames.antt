@@ -1,5 +1,5 @@
 -- What decode gives of a graph within the program's limits, lent enough memory, as the printed text.
-use mathlib.Core.Path.{_≡_, refl, sym, ap, ap₂, _∙_}
+use mathlib.Core.Path.{_≡_, sym, ap, ap₂, _∙_}
 use mathlib.Core.Bool.{true}
 use mathlib.Core.List.{List, map}
 use Prim.Native.Nat.{ℕ, zero, suc, _*_, _≤_}
@@ -10,12 +10,12 @@ use lib.Seq.{take-at}
 use Rattle.rules.specs.Ranges.{one}
 use Rattle.rules.specs.Graphs.{Graph, programLimits}
 use Rattle.rules.specs.Sequence.{Scheme, state, begun, next, iterated, stop, final, report}
-use Rattle.rules.specs.Refusals.{orElse}
 use Rattle.rules.specs.declared.Refusal.{Refusal}
 use Rattle.rules.specs.declared.Report.{Report}
 use Rattle.rules.specs.declared.Judged.{Judged}
 use Rattle.rules.specs.declared.Judged.the-variants as Judgement
 use Rattle.rules.proofs.Ranges.{length-tabulate}
+use Rattle.rules.proofs.Judging.{orElse-none}
 use Rattle.decoder.specs.declared.Decoded.{Decoded}
 use Rattle.decoder.specs.declared.Decoded.the-variants.{Ran, Refused}
 use Rattle.decoder.specs.declared.Room.{Room}
@@ -37,11 +37,6 @@ final-bits : (G : Graph) (R : Scheme) (limit : ℕ) → length (final G R limit 
 unfolding final
 final-bits G R limit = state-bits G R (stop G R limit)
 
--- decode refuses no buffer
-none-short : (j : Judged) → orElse j Judgement.Admitted ≡ j
-none-short Judgement.Admitted = refl
-none-short (Judgement.Refused r) = refl
-
 pub record Lent (F : Frame) (d : ℕ) (m : Room) : Type 0 where
   pub old : Old (graph F) d
   pub levels : F .variables ≤ m .levels
@@ -60,7 +55,7 @@ lent-judged F d m l =
     as-before F d m (l .old) ∙
     (let e : enough (F .variables) (graph F .entries) m ≡ true
     = rw (le-leb _ _ (l .levels), le-leb _ _ (l .variableMessages), le-leb _ _ (l .checkMessages), le-leb _ _ (l .sums), le-leb _ _ (l .bits)) in
-    rw e (none-short (found F)))
+    rw e (orElse-none (found F)))
 
 module _ {F : Frame} {M M′ : Memory} {x x′ : List ℕ} {d : Decoded} (w : Decodes F M M′ x x′ d) (l : Lent F (length x) (roomOf M)) where
   answer-is : d ≡ decoded F (found F)

@@ -4,7 +4,7 @@ use mathlib.Core.Bool.{xor}
 use lib.Ieee.{mul, div, lt, ofInt, ofBits}
 use Rattle.rules.specs.Tables.{failures}
 use Rattle.rules.specs.Ranges.{fold, but, count, joined, tabulate, first}
-use Rattle.rules.specs.Levels.{byte}
+use Rattle.rules.specs.Levels.{byte, blank}
 use Rattle.rules.specs.Graphs.{variableDegree, checkOf, oddCheck, unsatisfied}
 use Rattle.rules.specs.Nodes.{firstMessage, firstBit, others, fromCheck, lifts, lifted, counted, contribution, odd, extra, channelPart, share, posterior, outgoingSum, outgoingMagnitude, outgoing, fromVariable}
 use Rattle.rules.specs.Sequence.{unlifted, signPreserving, begun, sentIn, sent, iterated, next, state, unsatisfiedIn, stop, final, report}
@@ -26,5 +26,5 @@ use Rattle.program.specs.Answering.{frameText, programText}
 use Rattle.program.specs.Trials.{many, trials, passes, TrialsPass}
 
 pub trials-pass : TrialsPass
-unfolding xor mul div lt ofInt ofBits fold but count joined tabulate first byte variableDegree checkOf oddCheck unsatisfied firstMessage firstBit others fromCheck lifts lifted counted contribution odd extra channelPart share posterior outgoingSum outgoingMagnitude outgoing fromVariable unlifted signPreserving begun sentIn sent iterated next state unsatisfiedIn stop final report each word bytes table spanJudged shapeJudged graphJudged countsJudged startsJudged columnsJudged rowsJudged checkDegreesJudged variableDegreesJudged positive wholesBelow levelFor frameJudged digits decimal more number lineText field line fixed rows sheetLines startIn columnIn sheetRead hexDigit hexDigits pattern setting titles scaling settings settingsLine valueLines runLines runText verdictLines reportText refusalText frameText programText many trials passes failures
+unfolding xor mul div lt ofInt ofBits fold but count joined tabulate first byte blank variableDegree checkOf oddCheck unsatisfied firstMessage firstBit others fromCheck lifts lifted counted contribution odd extra channelPart share posterior outgoingSum outgoingMagnitude outgoing fromVariable unlifted signPreserving begun sentIn sent iterated next state unsatisfiedIn stop final report each word bytes table spanJudged shapeJudged graphJudged countsJudged startsJudged columnsJudged rowsJudged checkDegreesJudged variableDegreesJudged positive wholesBelow levelFor frameJudged digits decimal more number lineText field line fixed rows sheetLines startIn columnIn sheetRead hexDigit hexDigits pattern setting titles scaling settings settingsLine valueLines runLines runText verdictLines reportText refusalText frameText programText many trials passes failures
 trials-pass = refl

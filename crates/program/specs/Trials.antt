@@ -30,10 +30,14 @@ many (suc k) = 48 ∷ many k
 unfoldable pub trials : List Trial
 trials =
     prints sheet (plain "3f800000 3 3 1 1 0 5\nvalue\n40200000\nbf000000\n3fc00000\n") "verdict iterations unsatisfied\ncodeword 1 0\nbits\n000\n"
-    -- 'The example negated throughout: `codeword 1 0`, `111`. Limit 0: `stopped 0 2`, `010`. All +0.0: `codeword 0 0`, `000`.'
+    -- 'The example negated throughout: `codeword 1 0`, `111`. Limit 0: `stopped 0 2`, `010`.'
     ∷ prints sheet (plain "3f800000 3 3 1 1 0 5\nvalue\nc0200000\n3f000000\nbfc00000\n") "verdict iterations unsatisfied\ncodeword 1 0\nbits\n111\n"
     ∷ prints sheet (plain "3f800000 3 3 1 1 0 0\nvalue\n40200000\nbf000000\n3fc00000\n") "verdict iterations unsatisfied\nstopped 0 2\nbits\n010\n"
-    ∷ prints sheet (plain "3f800000 3 3 1 1 0 5\nvalue\n00000000\n00000000\n00000000\n") "verdict iterations unsatisfied\ncodeword 0 0\nbits\n000\n"
+    -- all +0.0, all -0.0, all at the first threshold; one magnitude of 1
+    ∷ prints sheet (plain "3f800000 3 3 1 1 0 5\nvalue\n00000000\n00000000\n00000000\n") "refusal place\n20 0\n"
+    ∷ prints sheet (plain "3f800000 3 3 1 1 0 5\nvalue\n80000000\n80000000\n80000000\n") "refusal place\n20 0\n"
+    ∷ prints sheet (plain "3f800000 3 3 1 1 0 5\nvalue\n3f800000\nbf800000\n3f800000\n") "refusal place\n20 0\n"
+    ∷ prints sheet (plain "3f800000 3 3 1 1 0 5\nvalue\nbf800001\n00000000\n00000000\n") "verdict iterations unsatisfied\ncodeword 2 0\nbits\n111\n"
     -- 'Limit 255 passes, 256 gives 9; a check of degree 1 gives 5.'
     ∷ prints sheet (plain "3f800000 3 3 1 1 0 255\nvalue\n40200000\nbf000000\n3fc00000\n") "verdict iterations unsatisfied\ncodeword 1 0\nbits\n000\n"
     ∷ prints sheet (plain "3f800000 3 3 1 1 0 256\nvalue\n40200000\nbf000000\n3fc00000\n") "refusal place\n9 0\n"
@@ -53,6 +57,7 @@ trials =
     ∷ prints sheet (plain "ff800000 3 3 1 1 0 5\nvalue\n40200000\nbf000000\n3fc00000\n") "refusal place\n10 0\n"
     ∷ prints sheet (noise "7f000000 00800000 3 3 1 1 0 5\nvalue\n40200000\nbf000000\n3fc00000\n") "refusal place\n11 0\n"
     ∷ prints sheet (plain "3f800000 3 3 1 1 0 5\nvalue\n40200000\n7f800000\n7fc00000\n") "refusal place\n12 1\n"
+    ∷ prints sheet (plain "3f800000 3 3 1 1 0 5\nvalue\n00000000\n00000000\n7f800000\n") "refusal place\n12 2\n"
     ∷ []
 
 unfoldable pub passes : Trial → Bool

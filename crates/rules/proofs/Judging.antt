@@ -25,6 +25,10 @@ pub orElse-right : (a b : Judged) → orElse a b ≡ Admitted → b ≡ Admitted
 orElse-right Admitted b h = h
 orElse-right (Refused r) b h = absurd (refused-not h)
 
+pub orElse-none : (a : Judged) → orElse a Admitted ≡ a
+orElse-none Admitted = refl
+orElse-none (Refused r) = refl
+
 pub orElse-both : {a b : Judged} → a ≡ Admitted → b ≡ Admitted → orElse a b ≡ Admitted
 orElse-both {a} {b} p q = rw (p, q)
 
@@ -119,3 +123,7 @@ and-right false b h = let z : _≡_ {A = ℕ} 0 1 = cc in absurd (omega arith)
 
 pub and-both : {a b : Bool} → a ≡ true → b ≡ true → a && b ≡ true
 and-both {a} {b} p q = rw (p, q)
+
+pub and-no : (a : Bool) → a && false ≡ false
+and-no true = refl
+and-no false = refl

@@ -15,6 +15,7 @@ use Rattle.rules.specs.Nodes.{Offsets, Lifting, never, lifts, lifted, co
 use Rattle.rules.specs.Sequence.{Scheme, unlifted, countedIn, signPreserving, levelAt, begun, sentIn, sent, iterated, next, state}
 use Rattle.rules.specs.Symmetry.{turned}
 use Rattle.rules.specs.Theorems.{heaviest, SentIsRest, NeverLifted, UnliftedBefore}
+use Rattle.rules.proofs.Judging.{and-no}
 use Rattle.rules.proofs.Parity.{outgoing-is-rest}
 use Rattle.rules.proofs.Simulation.{state-number}
 
@@ -66,11 +67,7 @@ lifts-before Λ t h = ap (λ b. b && not (eqb (Λ .from) never)) (lt-leb (Λ .fr
 
 lifts-never : (W t : ℕ) → lifts (record { from = never; to = W }) t ≡ false
 unfolding lifts
-lifts-never W t = go (leb never t)
-  where
-    go : (b : Bool) → b && false ≡ false
-    go true = refl
-    go false = refl
+lifts-never W t = and-no (leb never t)
 
 pub never-lifted : NeverLifted
 unfolding signPreserving unlifted

@@ -2,12 +2,13 @@
 use mathlib.Core.Path.{_≡_, refl, sym, ap, ap₂, _∙_}
 use mathlib.Core.Bool.{Bool, true, false, cond, xor}
 use mathlib.Core.Logic.{_≢_}
-use Prim.Native.Nat.{ℕ, zero, suc, _+_, _%_, _≤_, _<_, min}
+use Prim.Native.Nat.{ℕ, zero, suc, _+_, _-_, _%_, _≤_, _<_, min}
 use native.Mathlib.Decide.{ℕ-discrete}
 use native.Mathlib.Omega.{arith}
 use borrow.Author.Tests.{le-leb, lt-leb, leb-true, leb-false}
 use lib.Dec.{eqb, leb, lit≤}
 use lib.IntN.{pos, _+ℤ_}
+use lib.Pow.{pow-mono}
 use Rattle.rules.specs.Ranges.{but}
 use Rattle.rules.specs.Levels.{Level, byte, levelOf, largest}
 use Rattle.rules.specs.Graphs.{Graph, checkDegree, checkOf}
@@ -72,3 +73,7 @@ largest-within (suc (suc zero)) l = lit≤ tt
 largest-within (suc (suc (suc zero))) l = lit≤ tt
 largest-within (suc (suc (suc (suc zero)))) l = lit≤ tt
 largest-within (suc (suc (suc (suc (suc n))))) l = absurd (omega arith)
+
+-- and of one from 2 bits on
+pub largest-some : (bits : ℕ) → 2 ≤ bits → 1 ≤ largest bits
+largest-some bits l = omega (arith, pow-mono {i = 1} {j = bits - 1} (omega arith))

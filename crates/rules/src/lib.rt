@@ -57,6 +57,7 @@ pub enum Refusal {
     Shift(usize),
     Positions,
     NoCodeword,
+    Blank,
 }
 
 // The paper's number of a refusal, and its place.
@@ -111,6 +112,10 @@ impl Refusal {
             },
             Refusal::NoCodeword => Numbered {
                 number: 19,
+                place: 0,
+            },
+            Refusal::Blank => Numbered {
+                number: 20,
                 place: 0,
             },
         }

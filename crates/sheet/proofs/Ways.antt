@@ -1,6 +1,6 @@
 -- Each way out after the last line gives what the definition says of the answer and of the lists.
 use mathlib.Core.Path.{_≡_, refl, sym, ap, _∙_}
-use mathlib.Core.Bool.{Bool, false, true, _&&_}
+use mathlib.Core.Bool.{true}
 use mathlib.Core.List.{List}
 use Prim.Native.Nat.{ℕ, suc, _*_, _/_, _≤_, _<_}
 use native.Mathlib.Omega.{arith}
@@ -13,7 +13,7 @@ use Rattle.rules.specs.declared.Refusal.{Refusal}
 use Rattle.rules.specs.declared.Refusal.the-variants.{Buffer}
 use Rattle.rules.specs.declared.Judged.{Judged}
 use Rattle.rules.specs.declared.Judged.the-variants as Judgement
-use Rattle.rules.proofs.Judging.{orElse-right, unless-true, and-left, and-right}
+use Rattle.rules.proofs.Judging.{orElse-right, unless-true, and-left, and-right, and-no}
 use Rattle.words.specs.Roles.{wide, degreeAt}
 use Rattle.degrees.specs.Judging.{variablesJudged}
 use Rattle.graph.proofs.Lending.{variables-off}
@@ -23,10 +23,6 @@ use Rattle.sheet_text.specs.declared.Counts.{Counts}
 use Rattle.sheet.specs.Reading.{graph, roomFor, roomForDegrees, afterLines, degreesIn, answerOf}
 use Rattle.sheet.specs.Storing.{linesGraph, graphFrom, EntriesAt, Stores, CountedInto, AfterLines, Finished}
 use Rattle.sheet.specs.declared.Sheet.the-variants as Answer
-
-and-no : (a : Bool) → a && false ≡ false
-and-no true = refl
-and-no false = refl
 
 module _ {t : List ℕ} {k : Counts} {at : ℕ} (h : EntriesAt t k at) where
   abbrev G : Graph

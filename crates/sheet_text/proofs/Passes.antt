@@ -1,6 +1,6 @@
 -- The first pass: numbers kept up to the cap are judged as they are.
-use mathlib.Core.Path.{_≡_, refl, ap₂}
-use mathlib.Core.Bool.{Bool, true, false, _&&_}
+use mathlib.Core.Path.{_≡_, ap₂}
+use mathlib.Core.Bool.{_&&_}
 use Prim.Native.Nat.{ℕ, _+_, _≤_, _<_, min}
 use native.Mathlib.Decide.{decLt}
 use native.Mathlib.Omega.{arith}
@@ -8,14 +8,11 @@ use borrow.Author.Tests.{le-ltb, lt-leb}
 use lib.Dec.{leb, ltb}
 use Rattle.rules.specs.Graphs.{Limits, fewestVariables, fewestChecks}
 use Rattle.rules.specs.declared.Judged.the-variants as Judgement
+use Rattle.rules.proofs.Judging.{and-no}
 use Rattle.lines.specs.Lines.{Pair, pair}
 use Rattle.lines.specs.Places.{cap}
 use Rattle.sheet_text.specs.Reading.{countsFit, after, entryJudged}
 use Rattle.sheet_text.proofs.Order.{judged-fits}
-
-and-no : (a : Bool) → a && false ≡ false
-and-no true = refl
-and-no false = refl
 
 -- a number above every limit is refused as the number itself is
 pub capped-entry : (c low : Pair) (l : ℕ) (p : Pair) (a b : ℕ) → c .first ≤ cap → c .second ≤ cap → a ≡ min (p .first) cap → b ≡ min (p .second) cap

@@ -59,6 +59,9 @@ enum-told-7 c = search needs
 enum-told-8 : tie.Need-enum-told-8
 enum-told-8 c = search needs
 
+enum-told-9 : tie.Need-enum-told-9
+enum-told-9 c = search needs
+
 returns : tie.Need-returns
 returns c = rw (c .before .self .given .1)
 
@@ -116,6 +119,9 @@ returns-18 c = rw (c .enum-told7 .given .1)
 returns-19 : tie.Need-returns-19
 returns-19 c = rw (c .enum-told8 .given .1)
 
+returns-20 : tie.Need-returns-20
+returns-20 c = rw (c .enum-told9 .given .1)
+
 pub numbered-spec : {M : Type 1} → statement M
 numbered-spec =
     tie.close
@@ -139,6 +145,7 @@ numbered-spec =
     enum-known-self-11
     enum-told-7
     enum-told-8
+    enum-told-9
     returns
     returns-2
     returns-3
@@ -157,4 +164,5 @@ numbered-spec =
     returns-16
     returns-17
     returns-18
-    returns-19)
+    returns-19
+    returns-20)
