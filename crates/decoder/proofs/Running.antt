@@ -29,9 +29,10 @@ use Rattle.rules.proofs.Bounds.{messages-within, sums-bounded}
 use Rattle.words.specs.Roles.{sumAt, bitOfByte}
 use Rattle.words.proofs.Words.{table-ext}
 use Rattle.nodes.specs.Memory.{levelIn}
-use Rattle.nodes.specs.Lists.{shareIn, sentBy}
+use Rattle.nodes.specs.Lists.{upTo, shareIn, sentBy}
 use Rattle.nodes.proofs.Leaves.{magnitude-small}
 use Rattle.nodes.proofs.SumLaws.{parts-are}
+use Rattle.nodes.proofs.Halves.{up-to-within}
 use Rattle.nodes.proofs.Outgoing.{outgoing-saturates, sent-by}
 use Rattle.decoder.specs.Steps.{Holds, Sized, sumBy, Iterates, sends, whenSent, reportAt, partsIn, Messages, Runs}
 use Rattle.decoder.proofs.Stepping.{sum-in, extra-small}
@@ -96,6 +97,15 @@ module _ (G : Graph) (ok : Admitted G) (Nq : ℕ) (φ : Offsets) (Λ : Lifting) 
   received-byte : (t : ℕ) {C : List ℕ} → C ≡ map byte (state G R t .checkMessages) → (e : ℕ) → getD C e 0 < 256
   received-byte t e k = rw e (bytes-of (state G R t .checkMessages) (λ e l. omega (arith, messages-within G ok Nq φ Λ (levelIn y) t e (omega (arith, received-length t)) .1)) k)
 
+  -- every check message keeps within Nq, so the list of parts has its contribution
+  received-part : (t : ℕ) {C : List ℕ} → C ≡ map byte (state G R t .checkMessages) → (k : ℕ)
+      → upTo Nq (λ l. contribution 1 (counted Nq Λ t l)) (getD C k 0) ≡ contribution 1 (counted Nq Λ t (levelIn C k))
+  received-part t {C} e k = up-to-within Nq (λ l. contribution 1 (counted Nq Λ t l)) (getD C k 0) (rw (ap (λ l. levelIn l k) e ∙ ap (λ f. f k) (received-levels t)) (go (decLt k (G .entries))))
+    where
+      go : Dec (k < G .entries) → levelAt (state G R t .checkMessages) k .magnitude ≤ Nq
+      go (yes u) = messages-within G ok Nq φ Λ (levelIn y) t k u .1
+      go (no n) = rw (List·getD-eq-default (state G R t .checkMessages) plusZero {n = k} (omega (arith, received-length t))) (omega arith)
+
   sums-small : (t v : ℕ) → v < G .variables → natAbs (getD (state G R t .sums) v (pos 0)) ≤ 256 + 255 * limits .variableDegree
   sums-small t v l =
       let d : variableDegree G v ≤ limits .variableDegree = ok .variableDegrees v l .1 in
@@ -123,7 +133,8 @@ module _ (G : Graph) (ok : Admitted G) (Nq : ℕ) (φ : Offsets) (Λ : Lifting) 
     sent-at : (t : ℕ) {q C S b : List ℕ} → parts ≡ partsIn Nq Λ (suc t) → Messages Nq φ (suc t) messages → Holds G (state G R (suc t)) q C S b → (e : ℕ) → e < G .entries
         → sentBy parts messages (G .column) S C e ≡ byte (R .variable (suc t) (levelAt (state G R (suc t) .checkMessages)) e)
     sent-at t {q} {C} {S} {b} p lists holds e u =
-        sent-by (outgoing Nq φ) (λ b. contribution 1 (counted Nq Λ (suc t) (levelOf b))) (lists .outgoings (omega arith)) (outgoing-saturates Nq φ small) p (G .column) S C e (received-byte (suc t) (holds .checkMessages) e)
+        sent-by (outgoing Nq φ) (upTo Nq (λ l. contribution 1 (counted Nq Λ (suc t) l))) (lists .outgoings (omega arith)) (outgoing-saturates Nq φ small) p (G .column) S C e (received-byte (suc t) (holds .checkMessages) e)
+        ∙ ap (λ x. byte (outgoing Nq φ (sumAt S (G .column e) -ℤ x))) (received-part (suc t) (holds .checkMessages) e)
         ∙ ap₂ (λ s m. byte (outgoing Nq φ (s -ℤ contribution 1 (counted Nq Λ (suc t) m)))) sum level
         ∙ ap byte (sym (sent-is-rest G Nq φ Λ (levelIn y) σC (suc t) e u))
       where
@@ -161,7 +172,7 @@ module _ (G : Graph) (ok : Admitted G) (Nq : ℕ) (φ : Offsets) (Λ : Lifting) 
   unfolding signPreserving unlifted posterior share
   sum-by t {parts} {C} p e v u =
       ap (λ f. channelPart G (levelIn y) v +ℤ fold _+ℤ_ (pos 0) (shareIn (G .column) f v) 0 (G .entries))
-      (parts-are (λ b. contribution 1 (counted Nq Λ (suc t) (levelOf b))) C p (received-byte (suc t) e))
+      (parts-are (upTo Nq (λ l. contribution 1 (counted Nq Λ (suc t) l))) C p (received-byte (suc t) e) ∙ fun-ext (received-part (suc t) e))
       ∙ ap (λ f. posterior G (levelIn y) (countedIn Nq Λ (suc t) f) v) (ap levelIn e ∙ received-levels (suc t))
       ∙ sym (sum-at G R t v u)
 
@@ -304,8 +315,8 @@ module _ {Nq : ℕ} {φ : Offsets} where
   messages-none l = record { long = l; outgoings = λ u. absurd (omega arith) }
 
   -- before the last step: they are made, or they are as after the iteration before, and this is not the first that sends
-  pub messages-made : {k : ℕ} {made : List ℕ} → made ≡ tabulate (λ k. byte (outgoing Nq φ (pos k -ℤ pos 17))) 35 → Messages Nq φ k made
-  messages-made e = record { long = ap length e ∙ length-tabulate (λ k. byte (outgoing Nq φ (pos k -ℤ pos 17))) 35; outgoings = λ _. e }
+  pub messages-made : {N k : ℕ} {made : List ℕ} → N ≡ Nq → made ≡ tabulate (λ k. byte (outgoing N φ (pos k -ℤ pos 17))) 35 → Messages Nq φ k made
+  messages-made {N} {k} {made} n e = record { long = ap length e ∙ length-tabulate (λ k. byte (outgoing N φ (pos k -ℤ pos 17))) 35; outgoings = λ _. subst (λ N. made ≡ tabulate (λ k. byte (outgoing N φ (pos k -ℤ pos 17))) 35) n e }
 
   pub messages-kept : (over : Bool) (t : ℕ) {messages kept : List ℕ} → Messages Nq φ (t - 1) messages → not over && eqb t 1 ≡ false → kept ≡ messages
       → Messages Nq φ (cond over 0 t) kept

@@ -8,7 +8,7 @@ use lib.Ieee.{Float}
 use lib.IntN.{ℤ, pos, _+ℤ_, _-ℤ_}
 use lib.ListN.{length, getD}
 use Rattle.rules.specs.Ranges.{fold, one, tabulate}
-use Rattle.rules.specs.Levels.{Level, byte, levelOf, largest}
+use Rattle.rules.specs.Levels.{Level, byte, largest}
 use Rattle.rules.specs.Graphs.{Graph, Admitted, variableDegree}
 use Rattle.rules.specs.Nodes.{Offsets, Lifting, firstMessage, firstBit, fromCheck, counted, contribution, channelPart, bitOf, outgoing}
 use Rattle.rules.specs.Sequence.{Scheme, State, signPreserving, begun, final, report}
@@ -21,7 +21,7 @@ use Rattle.channel.specs.Values.{valuesJudged, channelLevel}
 use Rattle.channel.specs.Theorems.{Admissible}
 use Rattle.decoder.specs.declared.Room.{Room}
 use Rattle.nodes.specs.Memory.{levelIn, onColumns}
-use Rattle.nodes.specs.Lists.{partIn, shareIn}
+use Rattle.nodes.specs.Lists.{upTo, partIn, shareIn}
 
 -- The lists q, C, S and b hold the state σ, in bytes.
 pub record Holds (G : Graph) (σ : State) (q C S b : List ℕ) : Type 0 where
@@ -85,9 +85,9 @@ liftingIn s = record { from = s .«lift_from»; to = s .«lift_to» }
 abbrev pub rulesUnder : Settings → Graph → (ℕ → Level) → Scheme
 rulesUnder s G y = signPreserving G (largest (s .message)) (offsetsIn s) (liftingIn s) y
 
--- The list of parts of iteration t: the contribution of every message byte, as it counts there.
+-- The list of parts of iteration t: the contribution of every message of magnitude up to Nq, as it counts there.
 abbrev pub partsIn : ℕ → Lifting → ℕ → List ℤ
-partsIn Nq Λ t = tabulate (λ b. contribution 1 (counted Nq Λ t (levelOf b))) 256
+partsIn Nq Λ t = tabulate (upTo Nq (λ l. contribution 1 (counted Nq Λ t l))) 256
 
 abbrev pub partsUnder : Settings → ℕ → List ℤ
 partsUnder s t = partsIn (largest (s .message)) (liftingIn s) t

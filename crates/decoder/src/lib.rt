@@ -74,14 +74,16 @@ fn run(
     requires { ⌜ Begun s (graphOf n (now starts) (now columns)) (now levels) (now degrees) (now «variable_messages») (now «check_messages») (now sums) (now bits) ⌝ }
     ensures { λ r. ⌜ RunsUnder s (graphOf n (now (starts .entry)) (now (columns .entry))) (levelIn (now (levels .entry))) r (now («variable_messages» .exit)) (now («check_messages» .exit)) (now (sums .exit)) (now (bits .exit)) ⌝ }
 {
-    let mut parts = nodes::sums::contributions();
+    let most = channel::largest(s.message);
+    let mut parts = [0i32; 256];
+    nodes::sums::put_contributions(&mut parts, most);
     let mut messages = [0u8; 35];
     let mut t: usize = 0;
     loop {
         let codeword = syndrome::is_codeword(n, starts, columns, bits);
         let over = codeword | (s.limit as usize <= t);
         if !over & (t == 1) {
-            messages = nodes::variable::outgoing_messages(s.message, s.phi_s, s.phi_a, s.phi_0);
+            messages = nodes::variable::outgoing_messages(most, s.phi_s, s.phi_a, s.phi_0);
         }
         step::send(
             sends(over, t),

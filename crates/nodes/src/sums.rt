@@ -2,14 +2,14 @@
 ghost use mathlib.Core.Path.{_≡_};
 ghost use mathlib.Core.List.{_++_};
 ghost use Prim.Native.Nat.{ℕ, _+_, _*_, _/_, _<_, _≤_};
-ghost use lib.ListN.{length, drop};
+ghost use lib.ListN.{length, drop, replicate};
 ghost use lib.IntN.{pos, natAbs, _+ℤ_};
 ghost use Rattle.rules.specs.Ranges.{fold, one, tabulate};
 ghost use Rattle.rules.specs.Levels.{levelOf};
 ghost use Rattle.rules.specs.Nodes as Nodes;
 ghost use Rattle.words.specs.Roles.{wide, columnAt, degreeAt, sumAt, sumTable};
 ghost use Rattle.nodes.specs.Memory.{levelIn};
-ghost use Rattle.nodes.specs.Lists.{Parts, partIn, shareIn};
+ghost use Rattle.nodes.specs.Lists.{Parts, upTo, partIn, shareIn};
 
 // The signed number s(2M + e) of a level byte.
 pub fn contribution(b: u8, e: u8) -> i32
@@ -43,25 +43,26 @@ pub fn channel_parts(levels: &[u8], degrees: &[u8], sums: &mut [u8])
     }
 }
 
-// The contribution of every message that counts as it is, by its byte: that of a minus level is the opposite of the plus level's, 128 before.
-pub fn contributions() -> [i32; 256]
-    ensures { λ r. ⌜ r ≡ tabulate (λ b. Nodes.contribution 1 (levelOf b)) 256 ⌝ }
+// Puts the contribution of every message of magnitude up to `most`, counted as it is, into a list of zeros, by its byte: that of a minus level is
+// the opposite of the plus level's, 128 before.
+pub fn put_contributions(parts: &mut [i32], most: u8)
+    requires { ⌜ (most < 128) × (now parts ≡ replicate 256 (pos 0)) ⌝ }
+    ensures { λ _. ⌜ now (parts .exit) ≡ tabulate (upTo most (Nodes.contribution 1)) 256 ⌝ }
 {
-    let mut parts = [0i32; 256];
+    let count = most as usize + 1;
     let mut m: usize = 0;
-    while m < 128 {
+    while m < count {
         let x = (2 * m + 1) as i32;
         parts[m] = x;
         parts[m + 128] = -x;
         m += 1;
     }
-    parts
 }
 
-// Lifts a list of contributions: a message of magnitude `most` counts as magnitude `to`.
+// Lifts such a list: a message of magnitude `most` counts as magnitude `to`.
 pub fn lift(parts: &mut [i32], most: u8, to: u8)
-    requires { ⌜ (most < 128) × (to < 128) × (now parts ≡ tabulate (λ b. Nodes.contribution 1 (levelOf b)) 256) ⌝ }
-    ensures { λ _. ⌜ now (parts .exit) ≡ tabulate (λ b. Nodes.contribution 1 (Nodes.lifted most to (levelOf b))) 256 ⌝ }
+    requires { ⌜ (most < 128) × (to < 128) × (now parts ≡ tabulate (upTo most (Nodes.contribution 1)) 256) ⌝ }
+    ensures { λ _. ⌜ now (parts .exit) ≡ tabulate (upTo most (λ l. Nodes.contribution 1 (Nodes.lifted most to l))) 256 ⌝ }
 {
     let m = most as usize;
     let x = (2 * (to as usize) + 1) as i32;

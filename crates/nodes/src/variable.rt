@@ -1,53 +1,38 @@
 // Variable to check: each variable sends its sum without the recipient's own part, clipped and offset.
 ghost use mathlib.Core.Path.{_≡_};
-ghost use Prim.Native.Nat.{ℕ, _-_, _/_, _<_, _≤_, _^_};
-ghost use lib.ListN.{length, getD};
+ghost use Prim.Native.Nat.{ℕ, _-_, _/_, _<_, _^_};
+ghost use lib.ListN.{length};
 ghost use lib.IntN.{pos, natAbs, _-ℤ_};
 ghost use Rattle.rules.specs.Ranges.{tabulate};
-ghost use Rattle.rules.specs.Levels.{byte, largest};
+ghost use Rattle.rules.specs.Levels.{byte};
 ghost use Rattle.rules.specs.Nodes.{outgoingMagnitude, outgoing};
 ghost use Rattle.words.specs.Roles.{wide, columnAt, sumAt};
 ghost use Rattle.nodes.specs.Lists.{Parts, placeOf, sentBy};
-ghost use Rattle.nodes.specs.Magnitudes.{offsets, outgoingBy};
+ghost use Rattle.nodes.specs.Magnitudes.{offsets};
 
-// Outgoing magnitudes for F from 0 to 8: a row for each message precision and each setting of the offsets φs φa φ0.
-const MAGNITUDES: [[u8; 9]; 24] = [
-    [0, 1, 1, 1, 1, 1, 1, 1, 1], // 2 bits, 000
-    [0, 1, 1, 1, 1, 1, 1, 1, 1], // 2 bits, 001
-    [0, 1, 1, 1, 1, 1, 1, 1, 1], // 2 bits, 010
-    [0, 1, 1, 1, 1, 1, 1, 1, 1], // 2 bits, 011
-    [0, 0, 1, 1, 1, 1, 1, 1, 1], // 2 bits, 100
-    [0, 0, 1, 1, 1, 1, 1, 1, 1], // 2 bits, 101
-    [0, 0, 1, 1, 1, 1, 1, 1, 1], // 2 bits, 110
-    [0, 0, 1, 1, 1, 1, 1, 1, 1], // 2 bits, 111
-    [0, 1, 2, 3, 3, 3, 3, 3, 3], // 3 bits, 000
-    [0, 0, 2, 3, 3, 3, 3, 3, 3], // 3 bits, 001
-    [0, 1, 1, 3, 3, 3, 3, 3, 3], // 3 bits, 010
-    [0, 0, 1, 3, 3, 3, 3, 3, 3], // 3 bits, 011
-    [0, 1, 2, 2, 3, 3, 3, 3, 3], // 3 bits, 100
-    [0, 0, 2, 2, 3, 3, 3, 3, 3], // 3 bits, 101
-    [0, 1, 1, 2, 3, 3, 3, 3, 3], // 3 bits, 110
-    [0, 0, 1, 2, 3, 3, 3, 3, 3], // 3 bits, 111
-    [0, 1, 2, 3, 4, 5, 6, 7, 7], // 4 bits, 000
-    [0, 0, 2, 3, 4, 5, 6, 7, 7], // 4 bits, 001
-    [0, 1, 1, 2, 3, 4, 5, 7, 7], // 4 bits, 010
-    [0, 0, 1, 2, 3, 4, 5, 7, 7], // 4 bits, 011
-    [0, 1, 2, 3, 4, 5, 6, 6, 7], // 4 bits, 100
-    [0, 0, 2, 3, 4, 5, 6, 6, 7], // 4 bits, 101
-    [0, 1, 1, 2, 3, 4, 5, 6, 7], // 4 bits, 110
-    [0, 0, 1, 2, 3, 4, 5, 6, 7], // 4 bits, 111
-];
-
-// The nine magnitudes of a setting, F from 0 to 8.
-fn magnitudes(message: u8, phi_s: u8, phi_a: u8, phi_0: u8) -> [u8; 9]
-    requires { ⌜ (2 ≤ message) × (message ≤ 4) × («phi_s» ≤ 1) × («phi_a» ≤ 1) × («phi_0» ≤ 1) ⌝ }
-    ensures { λ r. ⌜ r ≡ tabulate (outgoingMagnitude (largest message) (offsets «phi_s» «phi_a» «phi_0»)) 9 ⌝ }
+// a - b, and 0 where b is the larger.
+fn less(a: u8, b: u8) -> u8
+    ensures { λ r. ⌜ r ≡ a - b ⌝ }
 {
-    let row = (message as usize - 2) * 8
-        + (phi_s as usize) * 4
-        + (phi_a as usize) * 2
-        + (phi_0 as usize);
-    MAGNITUDES[row]
+    if a < b { 0 } else { a - b }
+}
+
+// The outgoing magnitude of F, by Nq and the offsets φs, φa and φ0.
+pub fn outgoing_magnitude(most: u8, phi_s: u8, phi_a: u8, phi_0: u8, f: usize) -> u8
+    ensures { λ r. ⌜ r ≡ outgoingMagnitude most (offsets «phi_s» «phi_a» «phi_0») f ⌝ }
+{
+    let top = most as usize;
+    if f == top {
+        less(most, phi_s)
+    } else if top < f {
+        most
+    } else if 2 <= f {
+        less(f as u8, phi_a)
+    } else if f == 1 {
+        less(1, phi_0)
+    } else {
+        0
+    }
 }
 
 // (n - 1) / 2, and 0 for 0.
@@ -57,41 +42,30 @@ fn half(n: usize) -> usize
     if n == 0 { 0 } else { (n - 1) / 2 }
 }
 
-// The message of the outgoing sum k - 17, by nine magnitudes.
-fn outgoing_message(k: usize, nine: &[u8]) -> u8
-    requires { ⌜ (k < 35) × (length (now nine) ≡ 9) ⌝ }
-    requires { ⌜ ((i : ℕ) → getD (now nine) i 0 < 128) ⌝ }
-    ensures { λ r. ⌜ r ≡ byte (outgoingBy (now (nine .entry)) (pos k -ℤ pos 17)) ⌝ }
+// The message of the outgoing sum k - 17.
+fn outgoing_message(most: u8, phi_s: u8, phi_a: u8, phi_0: u8, k: usize) -> u8
+    requires { ⌜ most < 128 ⌝ }
+    ensures { λ r. ⌜ r ≡ byte (outgoing most (offsets «phi_s» «phi_a» «phi_0») (pos k -ℤ pos 17)) ⌝ }
 {
     if k < 17 {
-        nine[(16 - k) / 2] + 128
+        outgoing_magnitude(most, phi_s, phi_a, phi_0, (16 - k) / 2) + 128
     } else {
-        nine[half(k - 17)]
+        outgoing_magnitude(most, phi_s, phi_a, phi_0, half(k - 17))
     }
 }
 
-// The messages of the outgoing sums from -17 to 17, by nine magnitudes: at both ends F is 8, and beyond them larger.
-fn messages_by(nine: &[u8]) -> [u8; 35]
-    requires { ⌜ length (now nine) ≡ 9 ⌝ }
-    requires { ⌜ ((k : ℕ) → getD (now nine) k 0 < 128) ⌝ }
-    ensures { λ r. ⌜ r ≡ tabulate (λ k. byte (outgoingBy (now (nine .entry)) (pos k -ℤ pos 17))) 35 ⌝ }
+// The messages of the outgoing sums from -17 to 17: up to an Nq of 7 those beyond send what the ends do.
+pub fn outgoing_messages(most: u8, phi_s: u8, phi_a: u8, phi_0: u8) -> [u8; 35]
+    requires { ⌜ most < 128 ⌝ }
+    ensures { λ r. ⌜ r ≡ tabulate (λ k. byte (outgoing most (offsets «phi_s» «phi_a» «phi_0») (pos k -ℤ pos 17))) 35 ⌝ }
 {
     let mut messages = [0u8; 35];
     let mut k: usize = 0;
     while k < 35 {
-        messages[k] = outgoing_message(k, nine);
+        messages[k] = outgoing_message(most, phi_s, phi_a, phi_0, k);
         k += 1;
     }
     messages
-}
-
-// The messages of the outgoing sums from -17 to 17 under a setting.
-pub fn outgoing_messages(message: u8, phi_s: u8, phi_a: u8, phi_0: u8) -> [u8; 35]
-    requires { ⌜ (2 ≤ message) × (message ≤ 4) × («phi_s» ≤ 1) × («phi_a» ≤ 1) × («phi_0» ≤ 1) ⌝ }
-    ensures { λ r. ⌜ r ≡ tabulate (λ k. byte (outgoing (largest message) (offsets «phi_s» «phi_a» «phi_0») (pos k -ℤ pos 17))) 35 ⌝ }
-{
-    let nine = magnitudes(message, phi_s, phi_a, phi_0);
-    messages_by(&nine)
 }
 
 // The place of the outgoing sum u in such a list.

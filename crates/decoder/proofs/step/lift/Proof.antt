@@ -1,9 +1,10 @@
-use mathlib.Core.Path.{ap, _∙_}
+use mathlib.Core.Path.{sym, ap, _∙_}
 use native.Mathlib.Omega.{arith}
 use Rattle.rules.specs.Ranges.{tabulate}
-use Rattle.rules.specs.Levels.{levelOf, largest}
+use Rattle.rules.specs.Levels.{largest}
 use Rattle.rules.specs.Nodes.{contribution, lifted}
 use Rattle.rules.proofs.Own.{largest-within}
+use Rattle.nodes.specs.Lists.{upTo}
 use Rattle.decoder.specs.Steps.{liftingIn}
 use Rattle.decoder.proofs.Lifting.{parts-before, parts-lifted, parts-stay}
 use borrow.Author.Needs.{needs}
@@ -25,7 +26,7 @@ lift-requires c κs =
     let a = c .before .before .before .before .args in (
       omega (arith, c .largest .ensures, largest-within (a .s .message) (omega (arith, p .0 .message, p .0 .channel))),
       omega (arith, p .0 .lifting),
-      p .2 ∙ parts-before (largest (a .s .message)) (liftingIn (a .s)) (a .t) (omega (arith, c .before .before .if1 .taken)),
+      p .2 ∙ parts-before (largest (a .s .message)) (liftingIn (a .s)) (a .t) (omega (arith, c .before .before .if1 .taken)) ∙ ap (λ k. tabulate (upTo k (contribution 1)) 256) (sym (c .largest .ensures)),
     )
 
 same-length : tie.Need-same-length
@@ -36,7 +37,7 @@ returns c =
     let p = c .before .before .before .before .before .before .pre in
     let a = c .before .before .before .before .before .before .args in
     parts-lifted (largest (a .s .message)) (liftingIn (a .s)) (a .t) (c .before .before .before .before .if1 .taken) (p .1)
-    (c .before .lift .ensures ∙ ap (λ k. tabulate (λ b. contribution 1 (lifted k (a .s .«lift_to») (levelOf b))) 256) (c .before .before .largest .ensures))
+    (c .before .lift .ensures ∙ ap (λ k. tabulate (upTo k (λ l. contribution 1 (lifted k (a .s .«lift_to») l))) 256) (c .before .before .largest .ensures))
 
 returns-2 : tie.Need-returns-2
 returns-2 c =

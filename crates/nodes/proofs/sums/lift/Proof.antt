@@ -1,18 +1,15 @@
-use mathlib.Core.Path.{_≡_, ap, _∙_}
+use mathlib.Core.Path.{_∙_}
 use Prim.Native.Nat.{_+_, _*_}
 use native.Mathlib.Omega.{arith}
-use lib.ListN.{length, length-set}
+use lib.ListN.{length-set}
 use mir.Syntax.{w32}
 use mir.Facts.{toZ-ofZ, toZ-pos}
-use Rattle.rules.proofs.Ranges.{length-tabulate}
+use Rattle.nodes.proofs.SumLaws.{parts-long}
 use Rattle.nodes.proofs.Halves.{halves-set, lifted-plus, lifted-minus, lifted-other}
 use Rattle.nodes.proofs.Signed.{neg-fits, zero-minus}
 use borrow.Author.Needs.{needs}
 use Rattle.nodes.proofs.sums.lift.Statement.{statement}
 use Rattle.nodes.proofs.sums.lift.Tie as tie
-
-long : (c : tie.Start) → length (c .args .parts .now) ≡ 256
-long c = ap length (c .pre .2) ∙ length-tabulate _ 256
 
 mul-x : tie.Need-mul-x
 mul-x c = search needs
@@ -27,7 +24,7 @@ mul-x-2 : tie.Need-mul-x-2
 mul-x-2 c = search needs
 
 slice-set-from-x : tie.Need-slice-set-from-x
-slice-set-from-x c = omega (arith, long c)
+slice-set-from-x c = omega (arith, parts-long _ (c .pre .2))
 
 sub-parts : tie.Need-sub-parts
 sub-parts c = neg-fits (2 * c .args .to + 1) (omega arith)
@@ -39,7 +36,7 @@ mul-t6 : tie.Need-mul-t6
 mul-t6 c = search needs
 
 slice-set-from-parts : tie.Need-slice-set-from-parts
-slice-set-from-parts c = simp length-set (omega (arith, long c))
+slice-set-from-parts c = simp length-set (omega (arith, parts-long _ (c .pre .2)))
 
 same-length : tie.Need-same-length
 same-length c = search needs
