@@ -9,13 +9,13 @@
 #include <stdlib.h>
 #include <string.h>
 
-enum { VARIABLES = 1000000, CHECKS = 1000000, ENTRIES = 4000000, STACK = 1 << 20, PAINT = 0xa5 };
+enum { VARIABLES = 1000000, CHECKS = 1000000, ENTRIES = 4000000, LIMIT = 3, STACK = 1 << 20, PAINT = 0xa5 };
 
 static uint8_t starts[4 * (CHECKS + 1)], columns[4 * ENTRIES], values[4 * VARIABLES], text[48 + 14 * ENTRIES], degrees[4 * VARIABLES];
 static uint8_t levels[VARIABLES], variable_messages[ENTRIES], check_messages[ENTRIES], sums[4 * VARIABLES], bits[VARIABLES];
 static uint8_t read_starts[sizeof starts], read_columns[sizeof columns];
 static size_t text_length;
-static uint64_t answer;
+static uint64_t answer, record;
 
 /* Every block of four rows and four columns, each shifted in its own way. */
 enum { SIZE = 250000, ROWS = 4, COLUMNS = 4, BLOCKS = ROWS * COLUMNS };
@@ -73,14 +73,14 @@ static void *nothing(void *none) { return none; }
 
 static void *decode(void *none) {
   answer = frame_decode(VARIABLES, starts, sizeof starts, columns, sizeof columns, values, sizeof values, FRAME_PLAIN, 2, 0, 4, 4, 1, 1, 0,
-                        3, FRAME_NEVER, 15, degrees, sizeof degrees, levels, sizeof levels, variable_messages, sizeof variable_messages,
+                        LIMIT, FRAME_NEVER, 15, degrees, sizeof degrees, levels, sizeof levels, variable_messages, sizeof variable_messages,
                         check_messages, sizeof check_messages, sums, sizeof sums, bits, sizeof bits);
   return none;
 }
 
 static void *decode_lifted(void *none) {
   answer = frame_decode(VARIABLES, starts, sizeof starts, columns, sizeof columns, values, sizeof values, FRAME_PLAIN, 2, 0, 4, 4, 1, 1, 0,
-                        3, 2, 9, degrees, sizeof degrees, levels, sizeof levels, variable_messages, sizeof variable_messages,
+                        LIMIT, 2, 9, degrees, sizeof degrees, levels, sizeof levels, variable_messages, sizeof variable_messages,
                         check_messages, sizeof check_messages, sums, sizeof sums, bits, sizeof bits);
   return none;
 }
@@ -88,6 +88,34 @@ static void *decode_lifted(void *none) {
 static void *decode_place(void *none) {
   answer = frame_decode_place(VARIABLES, starts, sizeof starts, columns, sizeof columns, values, sizeof values, 12, degrees,
                               sizeof degrees);
+  return none;
+}
+
+static void *begin(void *none) {
+  answer = frame_begin(VARIABLES, starts, sizeof starts, columns, sizeof columns, values, sizeof values, FRAME_PLAIN, 2, 0, 4, 4, 1, 1, 0,
+                       LIMIT, 2, 9, degrees, sizeof degrees, levels, sizeof levels, variable_messages, sizeof variable_messages,
+                       check_messages, sizeof check_messages, sums, sizeof sums, bits, sizeof bits);
+  record = answer;
+  return none;
+}
+
+static void *begin_place(void *none) {
+  answer = frame_begin_place(VARIABLES, starts, sizeof starts, columns, sizeof columns, values, sizeof values, 12, degrees,
+                             sizeof degrees);
+  return none;
+}
+
+/* By one: first from iteration 0, then from 1, whose last step was left. */
+static void *advance(void *none) {
+  answer = frame_advance(record, VARIABLES, starts, sizeof starts, columns, sizeof columns, 4, 4, 1, 1, 0, LIMIT, 2, 9, 1, degrees,
+                         sizeof degrees, levels, sizeof levels, variable_messages, sizeof variable_messages, check_messages,
+                         sizeof check_messages, sums, sizeof sums, bits, sizeof bits);
+  record = answer;
+  return none;
+}
+
+static void *advance_place(void *none) {
+  answer = frame_advance_place(VARIABLES, starts, sizeof starts, columns, sizeof columns, degrees, sizeof degrees);
   return none;
 }
 
@@ -184,6 +212,11 @@ int main(void) {
   measure("frame_decode", decode, FRAME_DECODE_STACK);
   measure("frame_decode, lifted", decode_lifted, FRAME_DECODE_STACK);
   measure("frame_decode_place", decode_place, FRAME_DECODE_STACK);
+  measure("frame_begin", begin, FRAME_DECODE_STACK);
+  measure("frame_begin_place", begin_place, FRAME_DECODE_STACK);
+  measure("frame_advance", advance, FRAME_DECODE_STACK);
+  measure("frame_advance, resumed", advance, FRAME_DECODE_STACK);
+  measure("frame_advance_place", advance_place, FRAME_DECODE_STACK);
   measure("frame_write_sheet", write_sheet, FRAME_WRITE_SHEET_STACK);
   text_length = frame_text_length(answer);
   measure("frame_write_sheet_place", write_sheet_place, FRAME_WRITE_SHEET_STACK);

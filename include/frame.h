@@ -22,9 +22,10 @@ extern "C" {
 #endif
 
 /* How many bytes of stack a call or its companion takes at most, beside its caller's. Measured on x86-64 on a graph of the most variables, checks
-   and entries: decode 1,960, reading a sheet 520, writing one 544, reading a block sheet 1,064, writing one 216, encode 552. No list of a call grows
-   with the graph: the compiled calls have frames of fixed size, and recurse only for the seven digits of a count of 1,000,000. Not counted is what a
-   loader takes where it looks up memcpy or memset at their first call, some 3,000 bytes; link with -z now to have them looked up beforehand. */
+   and entries: decode 1,848, begin 712 and advance 1,656, which FRAME_DECODE_STACK is for too, reading a sheet 520, writing one 544, reading a
+   block sheet 1,064, writing one 216, encode 552. No list of a call grows with the graph: the compiled calls have frames of fixed size, and recurse
+   only for the seven digits of a count of 1,000,000. Not counted is what a loader takes where it looks up memcpy or memset at their first call,
+   some 3,000 bytes; link with -z now to have them looked up beforehand. */
 enum { FRAME_DECODE_STACK = 4096, FRAME_READ_SHEET_STACK = 2048, FRAME_WRITE_SHEET_STACK = 2048, FRAME_READ_BLOCKS_STACK = 2048,
        FRAME_WRITE_BLOCKS_STACK = 2048, FRAME_ENCODE_STACK = 2048 };
 
@@ -60,6 +61,42 @@ uint64_t frame_decode(size_t n, const uint8_t *starts, size_t starts_length, con
    as frame_decode leaves it. */
 size_t frame_decode_place(size_t n, const uint8_t *starts, size_t starts_length, const uint8_t *columns, size_t columns_length,
                           const uint8_t *values, size_t values_length, uint32_t refusal, uint8_t *degrees, size_t degrees_length);
+
+/* Begins a run: as frame_decode, with the same lists and numbers and the same refusals, but halted at iteration 0. The lent memory holds iteration 0
+   afterwards, and the answer is the run's record: frame_is_open, or finished at once, as a codeword or, where the limit is 0, stopped; the
+   iteration, 0; and its unsatisfied checks. */
+uint64_t frame_begin(size_t n, const uint8_t *starts, size_t starts_length, const uint8_t *columns, size_t columns_length,
+                     const uint8_t *values, size_t values_length, uint32_t kind, float gain, float variance, uint32_t channel,
+                     uint32_t message, uint32_t phi_s, uint32_t phi_a, uint32_t phi_0, uint32_t limit, uint32_t lift_from,
+                     uint32_t lift_to, uint8_t *degrees, size_t degrees_length, uint8_t *levels, size_t levels_length,
+                     uint8_t *variable_messages, size_t variable_messages_length, uint8_t *check_messages,
+                     size_t check_messages_length, uint8_t *sums, size_t sums_length, uint8_t *bits, size_t bits_length);
+
+/* As frame_decode_place, of the refusal that frame_begin gave. */
+size_t frame_begin_place(size_t n, const uint8_t *starts, size_t starts_length, const uint8_t *columns, size_t columns_length,
+                         const uint8_t *values, size_t values_length, uint32_t refusal, uint8_t *degrees, size_t degrees_length);
+
+/* Advances a run by up to `count` iterations, 0 to `limit`: it halts there, at the limit, or at the first iteration whose bits are a codeword.
+   `record` is what frame_begin or frame_advance answered last, and the lists are those of the run, as that call left them. The answer is the record
+   that now holds; where it is refused, the record that was given holds still. Begun and advanced on the same graph, numbers and memory, by whatever
+   counts, a run comes to where one run halts at the sum of the accepted counts; by `limit` at once it comes to where frame_decode ends.
+
+   Neither values nor scaling are looked at, nor what the lent sums and bits hold: the run goes on from the levels and messages, whoever made them, as
+   those of the record's iteration. Halted while open, the last step of that iteration is still to be done from 1 on: the variable messages are those
+   sent in the iteration before, and the next advance makes them anew from levels and check messages. A count of 0 changes nothing.
+
+   Lent: as for frame_decode; the levels are only read. After a refusal every byte but the degrees' is as it was. */
+uint64_t frame_advance(uint64_t record, size_t n, const uint8_t *starts, size_t starts_length, const uint8_t *columns,
+                       size_t columns_length, uint32_t channel, uint32_t message, uint32_t phi_s, uint32_t phi_a, uint32_t phi_0,
+                       uint32_t limit, uint32_t lift_from, uint32_t lift_to, uint32_t count, uint8_t *degrees, size_t degrees_length,
+                       const uint8_t *levels, size_t levels_length, uint8_t *variable_messages, size_t variable_messages_length,
+                       uint8_t *check_messages, size_t check_messages_length, uint8_t *sums, size_t sums_length, uint8_t *bits,
+                       size_t bits_length);
+
+/* The place of the refusal that frame_advance gives for the same graph and list of degrees of the same length; 0 where the graph is in order, since every
+   other refusal has place 0. The list of degrees is left as frame_advance leaves it. */
+size_t frame_advance_place(size_t n, const uint8_t *starts, size_t starts_length, const uint8_t *columns, size_t columns_length,
+                           uint8_t *degrees, size_t degrees_length);
 
 /* Reads a code sheet, the bytes `text`, into the two lists of its graph.
 
@@ -135,20 +172,26 @@ size_t frame_encode_place(size_t n, const uint8_t *starts, size_t starts_length,
                           const uint8_t *positions, size_t positions_length, const uint8_t *given, size_t given_length,
                           uint8_t *degrees, size_t degrees_length);
 
-/* The number of the refusal, 0 where nothing is refused. Of any call:
-   2 a count outside its limits, in a sheet also an entry past the 4,000,000th, in a block sheet one that takes E past that; 3 a column not
-   below n, in a sheet a number out of range; 4 a column not above its predecessor in the row, in a sheet an entry not after the one above; 5 a
-   degree outside its limits; 6 a lent buffer too short, the list of degrees before 5 is looked for and every other last, but before 19.
+/* The number of the refusal, 0 where nothing is refused. Of any call: 2 a count outside its limits, in a sheet also an entry past the 4,000,000th,
+   in a block sheet one that takes E past that; 3 a column not below n, in a sheet a number out of range; 4 a column not above its predecessor in
+   the row, in a sheet an entry not after the one above; 5 a degree outside its limits; 6 a lent buffer too short, the list of degrees before 5 is
+   looked for and every other last, but before 19 and 21.
    Of reading: 1 a line of another form, or a missing line or LF. Of block sheets: 17 a size of 0, or a shift not below the size.
-   Of decode, encode and of writing a sheet: 7 starts not beginning at 0, one below the start before it, or not ending at E.
-   Of decode: 8 precisions not admitted; 9 an offset above 1 or limit above 255; 16 lift_from or lift_to outside its bounds; 10 gain or variance
-   not finite and above zero, or another kind; 11 factor infinite or zero; 12 a value infinite or NaN; 20 a blank frame; 13 other than n values.
-   Of encode, where 2 is also n above 2,048 or m above 512: 18 a position not below n or not above its predecessor, or not as many positions as given
-   bits; 15 a given byte not 0 or 1; 19 no codeword holds the given bits. */
+   Of decode, begin, advance, encode and of writing a sheet: 7 starts not beginning at 0, one below the start before it, or not ending at E.
+   Of decode, begin and advance: 8 precisions not admitted; 9 an offset above 1 or limit above 255; 16 lift_from or lift_to outside its bounds. Of
+   decode and begin: 10 gain or variance not finite and above zero, or another kind; 11 factor infinite or zero; 12 a value infinite or NaN; 20 a
+   blank frame; 13 other than n values.
+   Of advance, after 6: 21 a record that is finished or at or past its limit, or a number that no begin or advance answers as open; a count above
+   the limit; a level beyond the channel precision, or a message of either list beyond the message precision.
+   Of encode, where 2 is also n above 2,048 or m above 512: 18 a position not below n or not above its predecessor, or not as many positions as
+   given bits; 15 a given byte not 0 or 1; 19 no codeword holds the given bits. */
 static inline unsigned frame_refusal(uint64_t answer) { return (unsigned)(answer & 255); }
 
-/* Of decode, where nothing is refused: whether the bits are a codeword, the number of the iteration where the run stopped, and how many
-   checks are unsatisfied there. */
+/* Of decode, begin and advance, where nothing is refused: whether the bits are a codeword, the number of the iteration where the run stopped or
+   halted, and how many checks are unsatisfied there. Of begin and advance also: whether the run is still open, neither a codeword nor at its limit.
+   The answer's lowest byte is then 0, the next is 0 for a codeword, 1 for stopped, 2 for open, the next two are the iteration, the upper four the
+   unsatisfied checks. */
+static inline int frame_is_open(uint64_t answer) { return (answer >> 8 & 255) == 2; }
 static inline int frame_is_codeword(uint64_t answer) { return (answer >> 8 & 255) == 0; }
 static inline unsigned frame_iterations(uint64_t answer) { return (unsigned)(answer >> 16 & 65535); }
 static inline unsigned frame_unsatisfied(uint64_t answer) { return (unsigned)(answer >> 32); }

@@ -1,5 +1,5 @@
 //! Tables of each decoder's times: decode on large and on small graphs, with lifting off and
-//! on, sheets, block sheets, and encode.
+//! on, runs that are advanced one by one, sheets, block sheets, and encode.
 
 mod encodings;
 mod frames;
@@ -11,7 +11,7 @@ use crate::paper::blocks::text_of;
 use crate::random::Random;
 use encodings::{Encodings, MESSAGES, SMALL_MESSAGES};
 use frames::{Batch, FRAMES, SMALL_FRAMES, STRIP_FRAMES};
-use times::{DecodeTimes, Named, SHORTEST, Times};
+use times::{DecodeTimes, Named, PauseTimes, SHORTEST, Times};
 
 const SEED: u64 = 36;
 const SIZES: [usize; 3] = [2_046, 4_092, 8_190];
@@ -25,6 +25,9 @@ const BLOCKS: [(usize, usize); 2] = [(27, 370), (2_000, 500)];
 /// checks as there can be, and on small graphs.
 const ENCODINGS: [([usize; 3], usize); 2] = [([2_048, 512, 61], 1_300), ([2_048, 512, 61], 0)];
 const SMALL_ENCODINGS: [([usize; 3], usize); 2] = [([24, 12, 6], 10), ([96, 48, 6], 40)];
+
+/// Batches of each graph: frames that decode, and frames that do not.
+const ENDINGS: usize = 2;
 
 const ROUNDS: usize = 101;
 const STRIP_ROUNDS: usize = 11;
@@ -58,6 +61,8 @@ fn large_graphs(decoders: &[Named]) -> Option<Lists> {
     batches.iter().for_each(|batch| decode_row(decoders, batch, ROUNDS));
     println!("the same frames, saturated messages lifted by 2 from iteration {LIFT_FROM} on:");
     batches.iter().for_each(|batch| decode_row(decoders, &batch.lifted(LIFT_FROM), ROUNDS));
+    pause_heading(decoders);
+    batches[..ENDINGS].iter().for_each(|batch| pause_row(decoders, batch, ROUNDS));
     batches.into_iter().next_back().map(|batch| batch.lists)
 }
 
@@ -72,12 +77,29 @@ fn strip(decoders: &[Named]) -> Lists {
     let [decoded, stopped] = frames::strip(random, STRIP_SIZE);
     decode_row(decoders, &decoded, STRIP_ROUNDS);
     decode_row(decoders, &stopped, STRIP_ROUNDS);
+    pause_heading(decoders);
+    pause_row(decoders, &decoded, STRIP_ROUNDS);
+    pause_row(decoders, &stopped, STRIP_ROUNDS);
     stopped.lists
 }
 
 fn decode_row(decoders: &[Named], batch: &Batch, rounds: usize) {
     let DecodeTimes { iterations, times } = times::decode_once(decoders, batch, rounds);
     row(&described(batch, iterations), &times, 2, None);
+}
+
+fn pause_heading(decoders: &[Named]) {
+    println!("the same frames, begun and advanced one by one; the time over that of one decode:");
+    heading(&["n", "entries", "frames", "iterations"], decoders, &["of decode"]);
+}
+
+fn pause_row(decoders: &[Named], batch: &Batch, rounds: usize) {
+    let PauseTimes { iterations, by_decode, one_by_one } = times::paused(decoders, batch, rounds);
+    let mut line = described(batch, iterations);
+    for (decode, Times { median, least }) in by_decode.iter().zip(&one_by_one) {
+        line += &format!("{median:>11.2}{least:>11.2}{:>11.2}", median / decode.median);
+    }
+    println!("{line}{}", ratio(&one_by_one));
 }
 
 /// Each graph has a generator of its own, so that no frame depends on other rows.
@@ -163,8 +185,7 @@ fn heading(cells: &[&str], decoders: &[Named], more: &[&str]) {
     println!("{}", cells.map(|cell| format!("{cell:>11}")).collect::<String>());
 }
 
-/// A line of the table, with the time of so many steps where that is wanted; the ratio is
-/// the last decoder's median over the first one's.
+/// A line of the table, with the time of so many steps where that is wanted.
 fn row(cells: &str, times: &[Times], digits: usize, steps: Option<f64>) {
     let mut line = cells.to_string();
     for Times { median, least } in times {
@@ -173,10 +194,15 @@ fn row(cells: &str, times: &[Times], digits: usize, steps: Option<f64>) {
             line += &format!("{:>11.0}", median * steps);
         }
     }
-    if let [first, .., last] = times {
-        line += &format!("{:>11.2}", last.median / first.median);
+    println!("{line}{}", ratio(times));
+}
+
+/// The last decoder's median over the first one's.
+fn ratio(times: &[Times]) -> String {
+    match times {
+        [first, .., last] => format!("{:>11.2}", last.median / first.median),
+        _ => String::new(),
     }
-    println!("{line}");
 }
 
 fn described(batch: &Batch, iterations: f64) -> String {

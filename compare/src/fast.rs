@@ -5,12 +5,13 @@ pub mod blocks;
 pub mod decode;
 pub mod encode;
 pub mod graph;
+pub mod pause;
 pub mod sheet;
 mod tables;
 
 use crate::interface::{
-    Answer, BlocksBytes, DecodeInput, Decoded, Decoder, EncodeInput, GraphBytes, Lent, LentLengths,
-    NUMBER_BYTES, Refusal, SheetCounts,
+    AdvanceInput, Answer, BlocksBytes, DecodeInput, Decoded, Decoder, EncodeInput, GraphBytes,
+    Lent, NUMBER_BYTES, Record, Refusal, SheetCounts,
 };
 
 pub struct Fast;
@@ -21,14 +22,7 @@ fn place<T>(result: Result<T, Refusal>) -> usize {
 
 impl Decoder for Fast {
     fn decode(&self, input: &DecodeInput, degrees: &mut [u8], lent: &mut Lent) -> Answer<Decoded> {
-        let lengths = LentLengths {
-            levels: lent.levels.len(),
-            variable_messages: lent.variable_messages.len(),
-            check_messages: lent.check_messages.len(),
-            sums: lent.sums.len(),
-            bits: lent.bits.len(),
-        };
-        match decode::prepare(input, degrees, &lengths) {
+        match decode::prepare(input, degrees, &lent.lengths()) {
             Ok(frame) => Answer::Accepted(decode::run(&frame, lent)),
             Err(refusal) => Answer::Refused(refusal.number),
         }
@@ -49,6 +43,36 @@ impl Decoder for Fast {
             Ok(_) if number == 12 => decode::first_bad_value(values).unwrap_or(0),
             Ok(_) => 0,
         }
+    }
+
+    fn begin(&self, input: &DecodeInput, degrees: &mut [u8], lent: &mut Lent) -> Answer<Record> {
+        match decode::prepare(input, degrees, &lent.lengths()) {
+            Ok(frame) => Answer::Accepted(pause::begin(&frame, lent)),
+            Err(refusal) => Answer::Refused(refusal.number),
+        }
+    }
+
+    fn begin_place(
+        &self,
+        graph: &GraphBytes,
+        values: &[u8],
+        number: u8,
+        degrees: &mut [u8],
+    ) -> usize {
+        self.decode_place(graph, values, number, degrees)
+    }
+
+    fn advance(&self, input: &AdvanceInput, degrees: &mut [u8], lent: &mut Lent) -> Answer<Record> {
+        let prepared = pause::prepare(input, degrees, &lent.lengths());
+        match prepared.and_then(|code| pause::advance(&code, input, lent)) {
+            Ok(record) => Answer::Accepted(record),
+            Err(refusal) => Answer::Refused(refusal.number),
+        }
+    }
+
+    fn advance_place(&self, graph: &GraphBytes, degrees: &mut [u8]) -> usize {
+        let (starts, columns) = graph::lists(graph);
+        place(graph::check(graph.n, starts, columns, degrees))
     }
 
     fn read_sheet(

@@ -5,173 +5,23 @@ mod blank;
 mod blocks;
 mod calls;
 mod encode;
+mod fault;
 mod found;
 mod found_blank;
 mod found_blocks;
 mod found_encode;
+mod found_pause;
 mod lifting;
+mod pause;
 
 use crate::interface::{DecodeInput, LentLengths, Verdict, as_number, f32_list};
 use crate::paper::graph::odd_checks;
 use crate::paper::rules::{self, Offsets};
-use crate::paper::run::{Checked, check_settings};
+use crate::paper::run::{Checked, Rules, check_settings};
 use crate::paper::{self, Graph, Level, Limits, Outcome, Refusal};
 use blank::Frame;
+use fault::Fault;
 use lifting::Sum;
-
-#[derive(Clone, Copy, Debug, PartialEq, Eq)]
-enum Fault {
-    None,
-    // Where decoders of this kind go astray.
-    NegativeZeroAsPlus,
-    RoundedUp,
-    OwnMessageCounted,
-    TieToBit0,
-    Phi0WhereNqIs1,
-    OffsetPastNq,
-    // The reviewer's checklist.
-    AllZeroBits,
-    NoIterations,
-    StoppedBeforeTheLimit,
-    IterationRepeated,
-    CountNotItsOwn,
-    RefusedThroughout,
-    // Others.
-    DegreeOneAsEven,
-    LastStepDoneToo,
-    VarianceDividedLast,
-    VarianceRead,
-    BuffersBeforeValues,
-    LastBadValue,
-    BytePastTheLength,
-    WrittenWhenRefused,
-    CarriageReturnsRead,
-    LastLineFeedOptional,
-    WideNumbersWrapped,
-    TextLengthOneMore,
-    // Whole-strip codes.
-    DegreesAfterFive,
-    DegreesBeforeFour,
-    DegreesChangedByFour,
-    DegreesChangedBySix,
-    DegreesLeftAfterFive,
-    DegreesLeftByLaterRefusals,
-    DegreesCountedPastN,
-    DegreesLeftByCompanion,
-    StartsOf16Bits,
-    ColumnsOf16Bits,
-    OldLimitInReader,
-    // Lifting.
-    LiftedFromTheNextOn,
-    LiftedInPosteriorOnly,
-    LiftedInOutgoingOnly,
-    EveryMagnitudeLifted,
-    LiftedAsStored,
-    FirstMessagesLifted,
-    LevelsLifted,
-    PlusAloneLifted,
-    NeverWrappedToZero,
-    WOfNqAdmitted,
-    W16Admitted,
-    WUnreadWhereNever,
-    L0Admitted,
-    L257Admitted,
-    SixteenBeforeNine,
-    SixteenAfterTen,
-    SixteenWithPlace,
-    // Block sheets.
-    BlocksShiftedBack,
-    ShiftNotReduced,
-    BlockCountsExchanged,
-    BlocksByColumn,
-    BlockPairTwice,
-    ShiftOfSizeAdmitted,
-    SizeZeroAsTwo,
-    SeventeenBeforeThree,
-    SeventeenAfterFour,
-    SeventeenWithoutPlace,
-    FormBeforeBlockLimit,
-    BlockLimitRoundedUp,
-    BlockProductWrapped,
-    BlockNumbersOf32Bits,
-    BlockPlaceWithoutTop,
-    BlockPlaceByRow,
-    BlockListStoredBeforeFive,
-    BlockDegreesLeftOut,
-    BlockDegreesAfterFive,
-    BlockPartRead,
-    BlockTextBeforeFive,
-    BlockTextWrittenPast,
-    BlockWriterWithoutPlace,
-    // The writing side.
-    FreeBitsAsOne,
-    FirstPivot,
-    NineteenWithARowToUse,
-    NineteenMissed,
-    NineteenOfSingleChecks,
-    NineteenWithoutLastCheck,
-    NineteenOfEmptyChecks,
-    GivenBitNotHeld,
-    RightSideNotAdded,
-    ChecksAboveNotCleared,
-    WorkTakenAsLent,
-    WorkLeftAfterNineteen,
-    WorkLeftAfterCodeword,
-    WorkClearedBySix,
-    WorkClearedByEighteen,
-    WorkWrittenPast,
-    WorkNotMeasured,
-    WorkWithoutRightSide,
-    CodewordBeforeNineteen,
-    CodewordClearedByNineteen,
-    CodewordNotCleared,
-    CodewordWrittenPast,
-    CodewordNotMeasured,
-    EqualPositionAdmitted,
-    FallingPositionAdmitted,
-    PositionOfNAdmitted,
-    PositionsOf8Bits,
-    PartOfPositionRead,
-    MoreBitsAdmitted,
-    MorePositionsAdmitted,
-    BitOf2Admitted,
-    N2049Admitted,
-    M513Admitted,
-    WritingLimitsAfterSeven,
-    WritingEntriesOfProgram,
-    FifteenBeforeEighteen,
-    SixBeforeFifteen,
-    NineteenBeforeSix,
-    EighteenBeforeFive,
-    LastBadBit,
-    FifteenWithoutPlace,
-    EighteenWithPlace,
-    NineteenWithPlace,
-    DegreesChangedByTwo,
-    DegreesLeftByWriting,
-    DegreesLeftByWritingPlace,
-    // Blank frames.
-    BlankByFirst,
-    BlankByLast,
-    BlankWithoutLast,
-    BlankBy16Bits,
-    BlankBySome,
-    BlankDecoded,
-    ThresholdExposed,
-    PlusZeroAloneUnexposed,
-    ZeroAloneUnexposed,
-    UnscaledUnexposed,
-    UnexposedByGainAlone,
-    UnexposedByExactProduct,
-    SubnormalUnexposed,
-    MinusUnexposed,
-    TwentyAfterSix,
-    TwentyBeforeTwelve,
-    TwentyBeforeEleven,
-    TwentyBeforeThirteen,
-    TwentyWithPlace,
-    LevelBeforeTwenty,
-}
 
 struct Faulty(Fault);
 
@@ -225,17 +75,17 @@ impl Faulty {
     }
 
     fn quantise(&self, settings: &Checked, input: &DecodeInput, value: f32) -> Level {
-        let mut level = paper::quantise(settings.factor, settings.nch, value);
+        let nch = settings.rules.nch;
+        let mut level = paper::quantise(settings.factor, nch, value);
         if self.has(Fault::VarianceDividedLast) && input.settings.kind == 1 {
             let p = 2.0 * input.settings.gain * value.abs() / input.settings.variance;
-            level.magnitude = paper::quantise(1.0, settings.nch, p).magnitude;
+            level.magnitude = paper::quantise(1.0, nch, p).magnitude;
         }
         if self.has(Fault::NegativeZeroAsPlus) {
             level.minus = value < 0.0;
         }
         if self.has(Fault::RoundedUp) {
-            level.magnitude =
-                ((settings.factor * value.abs()) as u32).min(settings.nch.into()) as u8;
+            level.magnitude = ((settings.factor * value.abs()) as u32).min(nch.into()) as u8;
         }
         level
     }
@@ -278,7 +128,8 @@ impl Faulty {
     ) -> Outcome {
         let levels: Vec<Level> =
             values.iter().map(|&value| self.quantise(settings, input, value)).collect();
-        let sent = |&variable: &u32| self.first_message(levels[variable as usize], settings);
+        let rules = &settings.rules;
+        let sent = |&variable: &u32| self.first_message(levels[variable as usize], rules);
         let mut outcome = Outcome {
             verdict: Verdict::Stopped,
             iterations: 0,
@@ -292,21 +143,21 @@ impl Faulty {
         let early = u8::from(self.has(Fault::StoppedBeforeTheLimit));
         let limit = match self.has(Fault::NoIterations) {
             true => 0,
-            false => settings.limit.saturating_sub(early.into()),
+            false => rules.limit.saturating_sub(early.into()),
         };
         let entries = graph.entries_of_variables();
         loop {
             outcome.unsatisfied = odd_checks(graph, &outcome.bits);
             let stops = outcome.unsatisfied == 0 || outcome.iterations == limit;
             if outcome.iterations > 0 && (!stops || self.has(Fault::LastStepDoneToo)) {
-                self.send_from_variables(&entries, settings, &mut outcome);
+                self.send_from_variables(&entries, rules, &mut outcome);
             }
             if stops {
                 break;
             }
             outcome.iterations += 1;
             if outcome.iterations < 2 || !self.has(Fault::IterationRepeated) {
-                self.iterate(graph, &entries, settings, &mut outcome);
+                self.iterate(graph, &entries, rules, &mut outcome);
             }
         }
         if outcome.unsatisfied == 0 {
@@ -315,35 +166,34 @@ impl Faulty {
         if self.has(Fault::AllZeroBits) {
             outcome.bits.fill(0);
         }
-        if self.has(Fault::CountNotItsOwn) && outcome.iterations == settings.limit {
+        if self.has(Fault::CountNotItsOwn) && outcome.iterations == rules.limit {
             outcome.unsatisfied += usize::from(outcome.unsatisfied > 0);
         }
         outcome
     }
 
-    fn send_from_variables(&self, entries: &[Vec<usize>], settings: &Checked, to: &mut Outcome) {
+    fn send_from_variables(&self, entries: &[Vec<usize>], rules: &Rules, to: &mut Outcome) {
         for (variable, entries) in entries.iter().enumerate() {
-            let incoming = self.counted(entries, Sum::Outgoing, settings, to);
-            let channel = self.counted_level(to.levels[variable], settings, to.iterations);
+            let incoming = self.counted(entries, Sum::Outgoing, rules, to);
+            let channel = self.counted_level(to.levels[variable], rules, to.iterations);
             for (recipient, &entry) in entries.iter().enumerate() {
                 let u = rules::outgoing_sum(channel, &incoming, recipient);
-                to.variable_messages[entry] =
-                    self.variable_message(u, settings.nq, settings.offsets);
+                to.variable_messages[entry] = self.variable_message(u, rules.nq, rules.offsets);
             }
         }
     }
 
-    fn iterate(&self, graph: &Graph, entries: &[Vec<usize>], settings: &Checked, to: &mut Outcome) {
+    fn iterate(&self, graph: &Graph, entries: &[Vec<usize>], rules: &Rules, to: &mut Outcome) {
         for row in graph.rows() {
             for (recipient, entry) in row.clone().enumerate() {
                 let incoming = &to.variable_messages[row.clone()];
                 to.check_messages[entry] = self.check_message(incoming, recipient);
             }
         }
-        self.store_as_counted(settings, to);
+        self.store_as_counted(rules, to);
         for (variable, entries) in entries.iter().enumerate() {
-            let incoming = self.counted(entries, Sum::Posterior, settings, to);
-            let channel = self.counted_level(to.levels[variable], settings, to.iterations);
+            let incoming = self.counted(entries, Sum::Posterior, rules, to);
+            let channel = self.counted_level(to.levels[variable], rules, to.iterations);
             to.sums[variable] = self.posterior_sum(channel, &incoming);
             to.bits[variable] = match self.has(Fault::TieToBit0) {
                 true => u8::from(to.sums[variable] < 0),

@@ -1,5 +1,7 @@
 //! Seeded random inputs: graphs, settings, values, sheets and run texts, good and damaged.
 
+pub mod advance_cases;
+pub mod advance_orders;
 pub mod blank;
 pub mod blank_cases;
 pub mod blank_orders;
@@ -17,6 +19,9 @@ pub mod graphs;
 pub mod lifting;
 pub mod limits;
 pub mod orders;
+pub mod pause;
+pub mod pause_cases;
+pub mod programs;
 pub mod refusals;
 pub mod settings;
 pub mod strips;

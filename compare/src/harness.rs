@@ -4,6 +4,7 @@ mod arena;
 mod blocks;
 pub mod check;
 mod encode;
+mod pause;
 mod programs;
 mod report;
 mod series;
@@ -20,6 +21,7 @@ use crate::generate::blank_cases::{self, BLANK_STRIPS};
 use crate::generate::block_strips::{self, BLOCK_STRIPS};
 use crate::generate::cases::{self, Case};
 use crate::generate::encode_limits::{self, ENCODE_STRIPS};
+use crate::generate::pause_cases::{self, PAUSE_STRIPS};
 use crate::generate::strips::{STRIPS, strip};
 use crate::interface::Decoder;
 use crate::random::Random;
@@ -31,7 +33,7 @@ use std::time::Instant;
 const INPUTS_BEFORE_LIMITS: u64 = 1_000;
 
 /// Inputs that come before the strips.
-const INPUTS_BEFORE_STRIPS: u64 = 8_000;
+const INPUTS_BEFORE_STRIPS: u64 = 12_000;
 
 /// All inputs of a seed, by number and without end.
 struct Inputs {
@@ -70,7 +72,11 @@ impl Inputs {
             return Some(encode_limits::strip(index));
         }
         index -= ENCODE_STRIPS;
-        (index < BLANK_STRIPS).then(|| blank_cases::strip(index))
+        if index < BLANK_STRIPS {
+            return Some(blank_cases::strip(index));
+        }
+        index -= BLANK_STRIPS;
+        (index < PAUSE_STRIPS).then(|| pause_cases::strip(self.seed, index))
     }
 }
 
@@ -184,6 +190,21 @@ mod tests {
         for (number, expected) in (first..).zip(expected) {
             let seen = check(&inputs.input(number), &Fast, number).unwrap();
             assert_eq!((seen.call, seen.refusal), ("decode", expected), "input {number}");
+        }
+    }
+
+    /// And of paused runs: one by parts, a state that is carried on, and levels and messages beyond
+    /// their precision at the far end.
+    #[test]
+    fn pause_strips_are_what_they_are_for() {
+        let blank = STRIPS + BLOCK_STRIPS + ENCODE_STRIPS;
+        let first = INPUTS_BEFORE_STRIPS + (blank + BLANK_STRIPS) as u64;
+        let inputs = Inputs::of(3);
+        let expected = [("begin", 0), ("advance", 0), ("advance", 21), ("advance", 21)];
+        assert_eq!(expected.len(), PAUSE_STRIPS);
+        for (number, expected) in (first..).zip(expected) {
+            let seen = check(&inputs.input(number), &Fast, number).unwrap();
+            assert_eq!((seen.call, seen.refusal), expected, "input {number}");
         }
     }
 }

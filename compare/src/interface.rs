@@ -39,6 +39,48 @@ pub struct Decoded {
     pub unsatisfied: usize,
 }
 
+/// A run's record: its verdict, which it has not while it is open, the iteration where it halted,
+/// and how many checks are unsatisfied there.
+#[derive(Clone, Copy, Debug, PartialEq, Eq)]
+pub struct Record {
+    pub verdict: Option<Verdict>,
+    pub iterations: usize,
+    pub unsatisfied: usize,
+}
+
+impl Record {
+    /// "The record is the packed answer itself": its lowest byte is 0, the next is 0 for a
+    /// codeword, 1 for stopped and 2 for open, two bytes are the iteration, four the unsatisfied
+    /// checks.
+    pub fn number(&self) -> u64 {
+        let verdict = match self.verdict {
+            Some(Verdict::Codeword) => 0,
+            Some(Verdict::Stopped) => 1,
+            None => 2,
+        };
+        verdict << 8 | (self.iterations as u64) << 16 | (self.unsatisfied as u64) << 32
+    }
+
+    /// The record of a number, where it has this form.
+    pub fn of_number(number: u64) -> Option<Record> {
+        let verdict = match number & 0xffff {
+            0x0000 => Some(Verdict::Codeword),
+            0x0100 => Some(Verdict::Stopped),
+            0x0200 => None,
+            _ => return None,
+        };
+        let iterations = (number >> 16 & 0xffff) as usize;
+        Some(Record { verdict, iterations, unsatisfied: (number >> 32) as usize })
+    }
+}
+
+impl From<Decoded> for Record {
+    fn from(decoded: Decoded) -> Record {
+        let Decoded { verdict, iterations, unsatisfied } = decoded;
+        Record { verdict: Some(verdict), iterations, unsatisfied }
+    }
+}
+
 /// The numbers that an accepted read of a sheet reports. E is the last start that was read.
 #[derive(Clone, Copy, Debug, PartialEq, Eq)]
 pub struct SheetCounts {
@@ -52,6 +94,16 @@ pub enum Answer<T> {
     Accepted(T),
     Refused(u8),
     Malformed(u64),
+}
+
+impl<T> Answer<T> {
+    pub fn map<U>(self, change: impl FnOnce(T) -> U) -> Answer<U> {
+        match self {
+            Answer::Accepted(accepted) => Answer::Accepted(change(accepted)),
+            Answer::Refused(number) => Answer::Refused(number),
+            Answer::Malformed(answer) => Answer::Malformed(answer),
+        }
+    }
 }
 
 /// A decode's settings, as the host gives them: nothing is checked yet. The last two are the
@@ -95,6 +147,16 @@ pub struct DecodeInput<'a> {
     pub settings: Settings,
 }
 
+/// What an advance is given beside the run's lists: nothing is checked yet. The scaling in the
+/// settings is not given.
+#[derive(Clone, Copy)]
+pub struct AdvanceInput<'a> {
+    pub record: u64,
+    pub graph: GraphBytes<'a>,
+    pub settings: Settings,
+    pub count: u32,
+}
+
 /// A graph, variables of it, and a bit for each, as the host gives them to be encoded: nothing is
 /// checked yet. A part of a position at the end of the list is no position.
 #[derive(Clone, Copy)]
@@ -109,13 +171,25 @@ pub fn work_length(n: usize, m: usize) -> usize {
     m.saturating_mul(n / 8 + 1)
 }
 
-/// The five buffers lent to decode beside the list of degrees.
+/// The five buffers lent to decode, begin and advance beside the list of degrees.
 pub struct Lent<'a> {
     pub levels: &'a mut [u8],
     pub variable_messages: &'a mut [u8],
     pub check_messages: &'a mut [u8],
     pub sums: &'a mut [u8],
     pub bits: &'a mut [u8],
+}
+
+impl Lent<'_> {
+    pub fn lengths(&self) -> LentLengths {
+        LentLengths {
+            levels: self.levels.len(),
+            variable_messages: self.variable_messages.len(),
+            check_messages: self.check_messages.len(),
+            sums: self.sums.len(),
+            bits: self.bits.len(),
+        }
+    }
 }
 
 /// Their lengths in bytes.
@@ -156,8 +230,8 @@ impl LentLengths {
 }
 
 /// The host's calls, each lent a list of degrees. Every `_place` is the companion that tells
-/// where a refusal is, and 0 where nothing is refused; decode's is asked with the number of
-/// the refusal. It leaves the list of degrees as its call does.
+/// where a refusal is, and 0 where nothing is refused; decode's and begin's are asked with the
+/// number of the refusal. It leaves the list of degrees as its call does.
 pub trait Decoder {
     fn decode(&self, input: &DecodeInput, degrees: &mut [u8], lent: &mut Lent) -> Answer<Decoded>;
     fn decode_place(
@@ -167,6 +241,18 @@ pub trait Decoder {
         number: u8,
         degrees: &mut [u8],
     ) -> usize;
+
+    fn begin(&self, input: &DecodeInput, degrees: &mut [u8], lent: &mut Lent) -> Answer<Record>;
+    fn begin_place(
+        &self,
+        graph: &GraphBytes,
+        values: &[u8],
+        number: u8,
+        degrees: &mut [u8],
+    ) -> usize;
+
+    fn advance(&self, input: &AdvanceInput, degrees: &mut [u8], lent: &mut Lent) -> Answer<Record>;
+    fn advance_place(&self, graph: &GraphBytes, degrees: &mut [u8]) -> usize;
 
     fn read_sheet(
         &self,
@@ -271,6 +357,23 @@ mod tests {
         assert_eq!(numbers(&bytes[..bytes.len() - 1]), list[..2]);
         assert_eq!(as_number(usize::MAX), u32::MAX);
         assert_eq!(as_number(u32::MAX as usize + 3), 2);
+    }
+
+    #[test]
+    fn records_and_their_numbers() {
+        let open = Record { verdict: None, iterations: 0x0102, unsatisfied: 0x0304_0506 };
+        assert_eq!(open.number(), 0x0304_0506_0102_0200);
+        let stopped = Record { verdict: Some(Verdict::Stopped), iterations: 255, unsatisfied: 1 };
+        assert_eq!(stopped.number(), 0x0000_0001_00ff_0100);
+        let codeword = Record { verdict: Some(Verdict::Codeword), iterations: 3, unsatisfied: 0 };
+        assert_eq!(codeword.number(), 0x0000_0000_0003_0000);
+        for record in [open, stopped, codeword] {
+            assert_eq!(Record::of_number(record.number()), Some(record));
+        }
+        // A refusal's number, and a byte that is no verdict.
+        for number in [21, open.number() + 1, open.number() + 0x100, 0x8000, 0xff00] {
+            assert_eq!(Record::of_number(number), None);
+        }
     }
 
     #[test]

@@ -6,6 +6,7 @@ pub mod bench;
 pub mod fast;
 pub mod generate;
 pub mod harness;
+pub mod inspect;
 pub mod interface;
 #[cfg(frame_library)]
 pub mod library;

@@ -1,11 +1,13 @@
-//! The proved library's C interface and safe wrappers: the only module that knows how
-//! slices are passed and answers packed. It is built when the archive is linked.
+//! The proved library's C interface and safe wrappers: the only module that knows how slices are
+//! passed and answers packed, but for a run's record, which is given back to the library as it is.
+//! It is built when the archive is linked.
 
 mod entries;
+mod runs;
 
 use crate::interface::{
-    Answer, BlocksBytes, DecodeInput, Decoded, Decoder, EncodeInput, GraphBytes, Lent, SheetCounts,
-    Verdict,
+    AdvanceInput, Answer, BlocksBytes, DecodeInput, Decoded, Decoder, EncodeInput, GraphBytes,
+    Lent, Record, SheetCounts,
 };
 use entries::*;
 
@@ -13,54 +15,7 @@ pub struct Library;
 
 impl Decoder for Library {
     fn decode(&self, input: &DecodeInput, degrees: &mut [u8], lent: &mut Lent) -> Answer<Decoded> {
-        let (graph, values, settings) = (&input.graph, input.values, &input.settings);
-        // SAFETY: every pointer comes from a slice and stands with that slice's length.
-        let answer = unsafe {
-            frame_decode(
-                graph.n,
-                graph.starts.as_ptr(),
-                graph.starts.len(),
-                graph.columns.as_ptr(),
-                graph.columns.len(),
-                values.as_ptr(),
-                values.len(),
-                settings.kind,
-                settings.gain,
-                settings.variance,
-                settings.channel,
-                settings.message,
-                settings.phi_s,
-                settings.phi_a,
-                settings.phi_0,
-                settings.limit,
-                settings.lift_from,
-                settings.lift_to,
-                degrees.as_mut_ptr(),
-                degrees.len(),
-                lent.levels.as_mut_ptr(),
-                lent.levels.len(),
-                lent.variable_messages.as_mut_ptr(),
-                lent.variable_messages.len(),
-                lent.check_messages.as_mut_ptr(),
-                lent.check_messages.len(),
-                lent.sums.as_mut_ptr(),
-                lent.sums.len(),
-                lent.bits.as_mut_ptr(),
-                lent.bits.len(),
-            )
-        };
-        unpacked(answer, |answer| {
-            let verdict = match field(answer, 8, 8) {
-                0 => Verdict::Codeword,
-                1 => Verdict::Stopped,
-                _ => return None,
-            };
-            Some(Decoded {
-                verdict,
-                iterations: field(answer, 16, 16),
-                unsatisfied: field(answer, 32, 32),
-            })
-        })
+        runs::decode(input, degrees, lent)
     }
 
     fn decode_place(
@@ -70,21 +25,29 @@ impl Decoder for Library {
         number: u8,
         degrees: &mut [u8],
     ) -> usize {
-        // SAFETY: as above.
-        unsafe {
-            frame_decode_place(
-                graph.n,
-                graph.starts.as_ptr(),
-                graph.starts.len(),
-                graph.columns.as_ptr(),
-                graph.columns.len(),
-                values.as_ptr(),
-                values.len(),
-                number.into(),
-                degrees.as_mut_ptr(),
-                degrees.len(),
-            )
-        }
+        runs::decode_place(graph, values, number, degrees)
+    }
+
+    fn begin(&self, input: &DecodeInput, degrees: &mut [u8], lent: &mut Lent) -> Answer<Record> {
+        runs::begin(input, degrees, lent)
+    }
+
+    fn begin_place(
+        &self,
+        graph: &GraphBytes,
+        values: &[u8],
+        number: u8,
+        degrees: &mut [u8],
+    ) -> usize {
+        runs::begin_place(graph, values, number, degrees)
+    }
+
+    fn advance(&self, input: &AdvanceInput, degrees: &mut [u8], lent: &mut Lent) -> Answer<Record> {
+        runs::advance(input, degrees, lent)
+    }
+
+    fn advance_place(&self, graph: &GraphBytes, degrees: &mut [u8]) -> usize {
+        runs::advance_place(graph, degrees)
     }
 
     fn read_sheet(
@@ -94,7 +57,7 @@ impl Decoder for Library {
         starts: &mut [u8],
         columns: &mut [u8],
     ) -> Answer<SheetCounts> {
-        // SAFETY: as above.
+        // SAFETY: every pointer comes from a slice and stands with that slice's length.
         let answer = unsafe {
             frame_read_sheet(
                 text.as_ptr(),

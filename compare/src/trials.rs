@@ -4,7 +4,7 @@
 
 pub mod blocks;
 
-use crate::generate::cases::{self, ProgramCase};
+use crate::generate::programs::{self, ProgramCase};
 use crate::harness::refusal_number;
 use crate::paper;
 use crate::random::Random;
@@ -83,7 +83,7 @@ fn of_each_answer() -> Vec<Trial> {
         if open.iter().all(|&(_, left)| left == 0) {
             break;
         }
-        let case = cases::any_program(&mut Random::for_input(SEED, input));
+        let case = programs::any(&mut Random::for_input(SEED, input));
         let ProgramCase { code: Some(sheet), run_text } = case else {
             continue;
         };

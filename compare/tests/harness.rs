@@ -3,9 +3,8 @@
 mod common;
 
 use common::{degrees_of, lines};
-use compare::generate::cases::{programs_at_limits, programs_of_blocks};
 use compare::generate::codewords::Codewords;
-use compare::generate::{graphs, limits};
+use compare::generate::{graphs, limits, programs};
 use compare::paper::{
     Limits, Refusal, check_graph, count_odd_checks, frame, read_sheet, write_sheet,
 };
@@ -101,7 +100,7 @@ fn fullest_graphs_are_full() {
 fn programs_of_65_536_bytes_and_one_more() {
     let refusal =
         |number: u8, place: usize| lines(&["refusal place", &format!("{number} {place}")]);
-    let cases = programs_at_limits();
+    let cases = programs::at_limits();
     let sizes: Vec<(usize, usize)> = cases
         .iter()
         .map(|case| (case.code.as_ref().map_or(0, Vec::len), case.run_text.len()))
@@ -125,7 +124,7 @@ fn programs_of_65_536_bytes_and_one_more() {
 
 #[test]
 fn programs_read_no_block_sheet() {
-    let cases = programs_of_blocks(&mut Random::new(16));
+    let cases = programs::of_blocks(&mut Random::new(16));
     let printed = cases.iter().map(|case| frame(case.code.as_deref(), &case.run_text));
     // The last four have an ordinary sheet's first, second or third line, or too many bytes.
     let of_parts = [(1, 2), (1, 3), (1, 4), (2, 0)];
@@ -141,7 +140,7 @@ fn programs_tell_the_limits_apart() {
     let answer = |limits, code: &[u8]| {
         read_sheet(limits, code, &mut degrees_of(1_000_000), usize::MAX, usize::MAX).err()
     };
-    let cases = programs_at_limits();
+    let cases = programs::at_limits();
     let differs = cases
         .iter()
         .filter_map(|case| case.code.as_ref())

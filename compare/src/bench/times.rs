@@ -5,10 +5,11 @@ use super::frames::Batch;
 use crate::generate::cases::{ReadCase, WriteBlocksCase};
 use crate::generate::{Lists, blocks, texts};
 use crate::interface::{
-    Answer, BlocksBytes, DecodeInput, Decoder, GraphBytes, Lent, LentLengths, NUMBER_BYTES,
-    number_bytes,
+    AdvanceInput, Answer, BlocksBytes, DecodeInput, Decoder, GraphBytes, Lent, LentLengths,
+    NUMBER_BYTES, Record, number_bytes,
 };
 use crate::paper::Blocks;
+use std::fmt::Debug;
 use std::hint::black_box;
 use std::time::{Duration, Instant};
 
@@ -31,16 +32,68 @@ pub struct DecodeTimes {
     pub times: Vec<Times>,
 }
 
+/// How a frame is run.
+#[derive(Clone, Copy)]
+enum Manner {
+    ByDecode,
+    OneByOne,
+}
+
+/// Of a batch: the mean iteration count of a frame, and for each decoder the times by decode and
+/// the times of runs that are begun and advanced one by one, both per graph entry and iteration.
+pub struct PauseTimes {
+    pub iterations: f64,
+    pub by_decode: Vec<Times>,
+    pub one_by_one: Vec<Times>,
+}
+
+/// One frame a measurement.
+pub fn paused(decoders: &[Named], batch: &Batch, rounds: usize) -> PauseTimes {
+    let subjects = |manner| decoders.iter().map(move |&decoder| (decoder, manner));
+    let subjects: Vec<(Named, Manner)> =
+        subjects(Manner::ByDecode).chain(subjects(Manner::OneByOne)).collect();
+    let DecodeTimes { iterations, mut times } = Prepared::new(batch).times(&subjects, 1, rounds);
+    let one_by_one = times.split_off(decoders.len());
+    PauseTimes { iterations, by_decode: times, one_by_one }
+}
+
 /// One call a measurement.
 pub fn decode_once(decoders: &[Named], batch: &Batch, rounds: usize) -> DecodeTimes {
-    Prepared::new(batch).times(decoders, 1, rounds)
+    Prepared::new(batch).times(&by_decode(decoders), 1, rounds)
+}
+
+fn by_decode<'a>(decoders: &[Named<'a>]) -> Vec<(Named<'a>, Manner)> {
+    decoders.iter().map(|&decoder| (decoder, Manner::ByDecode)).collect()
 }
 
 /// As many calls a measurement as make it long enough.
 pub fn decode_repeatedly(decoders: &[Named], batch: &Batch, rounds: usize) -> DecodeTimes {
     let mut prepared = Prepared::new(batch);
     let calls = prepared.calls_that_are_long_enough(decoders);
-    prepared.times(decoders, calls, rounds)
+    prepared.times(&by_decode(decoders), calls, rounds)
+}
+
+fn accepted<T: Debug>(answer: Answer<T>) -> T {
+    match answer {
+        Answer::Accepted(accepted) => accepted,
+        _ => panic!("a frame of the benchmark is answered {answer:?}"),
+    }
+}
+
+/// Begins a run and advances it by one until it is finished.
+fn one_by_one(
+    decoder: &dyn Decoder,
+    frame: &DecodeInput,
+    degrees: &mut [u8],
+    lent: &mut Lent,
+) -> Answer<Record> {
+    let mut answer = decoder.begin(frame, degrees, lent);
+    while let Answer::Accepted(record @ Record { verdict: None, .. }) = answer {
+        let DecodeInput { graph, settings, .. } = *frame;
+        let input = AdvanceInput { record: record.number(), graph, settings, count: 1 };
+        answer = black_box(decoder.advance(black_box(&input), degrees, lent));
+    }
+    answer
 }
 
 /// A batch with its lists in bytes, and the buffers lent for it.
@@ -68,7 +121,13 @@ impl Prepared<'_> {
     /// The time and the iterations of so many calls, on the frames in turn from the one of
     /// that number on. The lent buffers are cleared before the first call; each later one
     /// overwrites what the one before has left.
-    fn measure(&mut self, decoder: &dyn Decoder, first: usize, calls: usize) -> (Duration, usize) {
+    fn measure(
+        &mut self,
+        decoder: &dyn Decoder,
+        manner: Manner,
+        first: usize,
+        calls: usize,
+    ) -> (Duration, usize) {
         self.degrees.fill(0);
         self.lent.iter_mut().for_each(|buffer| buffer.fill(0));
         let Batch { lists, settings, frames, .. } = self.batch;
@@ -80,11 +139,16 @@ impl Prepared<'_> {
         for call in first..first + calls {
             let values = &frames[call % frames.len()];
             let input = DecodeInput { graph, values, settings: *settings };
-            let answer = black_box(decoder.decode(black_box(&input), &mut self.degrees, &mut lent));
-            let Answer::Accepted(decoded) = answer else {
-                panic!("a frame of the benchmark is answered {answer:?}");
+            let (input, degrees) = (black_box(&input), &mut self.degrees);
+            iterations += match manner {
+                Manner::ByDecode => {
+                    let answer = black_box(decoder.decode(input, degrees, &mut lent));
+                    accepted(answer).iterations
+                }
+                Manner::OneByOne => {
+                    accepted(one_by_one(decoder, input, degrees, &mut lent)).iterations
+                }
             };
-            iterations += decoded.iterations;
         }
         (begun.elapsed(), iterations)
     }
@@ -93,7 +157,8 @@ impl Prepared<'_> {
         let mut calls = 1;
         loop {
             let tries = decoders.iter().cycle().take(5 * decoders.len());
-            let times = tries.map(|(_, decoder)| self.measure(*decoder, 0, calls).0);
+            let times =
+                tries.map(|(_, decoder)| self.measure(*decoder, Manner::ByDecode, 0, calls).0);
             if times.min() >= Some(SHORTEST) {
                 return calls;
             }
@@ -102,15 +167,15 @@ impl Prepared<'_> {
     }
 
     /// Each round goes on with the frames where the one before has stopped.
-    fn times(&mut self, decoders: &[Named], calls: usize, rounds: usize) -> DecodeTimes {
+    fn times(&mut self, subjects: &[(Named, Manner)], calls: usize, rounds: usize) -> DecodeTimes {
         let entries = self.batch.lists.columns.len();
         let mut total = 0;
-        let times = in_turns(decoders, rounds, |decoder, round| {
-            let (time, iterations) = self.measure(decoder, round * calls, calls);
+        let times = turns(subjects, rounds, |((_, decoder), manner), round| {
+            let (time, iterations) = self.measure(*decoder, *manner, round * calls, calls);
             total += iterations;
             time.as_nanos() as f64 / (iterations * entries) as f64
         });
-        let iterations = total as f64 / (decoders.len() * rounds * calls) as f64;
+        let iterations = total as f64 / (subjects.len() * rounds * calls) as f64;
         DecodeTimes { iterations, times }
     }
 }
@@ -186,10 +251,18 @@ pub fn in_turns(
     rounds: usize,
     mut measure: impl FnMut(&dyn Decoder, usize) -> f64,
 ) -> Vec<Times> {
-    let mut times = vec![Vec::new(); decoders.len()];
+    turns(decoders, rounds, |(_, decoder), round| measure(*decoder, round))
+}
+
+fn turns<T>(
+    subjects: &[T],
+    rounds: usize,
+    mut measure: impl FnMut(&T, usize) -> f64,
+) -> Vec<Times> {
+    let mut times = vec![Vec::new(); subjects.len()];
     for round in 0..rounds {
-        for (index, (_, decoder)) in decoders.iter().enumerate() {
-            times[index].push(measure(*decoder, round));
+        for (index, subject) in subjects.iter().enumerate() {
+            times[index].push(measure(subject, round));
         }
     }
     times.into_iter().map(summed_up).collect()

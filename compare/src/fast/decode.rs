@@ -4,22 +4,90 @@
 use super::graph::{self, Word, number};
 use super::tables::{HALVES, Halves, MINUS, Outgoing, lifted};
 use crate::interface::{
-    DecodeInput, Decoded, LARGEST_LIFT, Lent, LentLengths, NEVER, Refusal, Settings, Verdict,
+    DecodeInput, Decoded, GraphBytes, LARGEST_LIFT, Lent, LentLengths, NEVER, Refusal, Settings,
+    Verdict,
 };
+
+/// A graph and the settings of a run on it, which nothing is wrong with.
+pub struct Code<'a> {
+    pub starts: &'a [Word],
+    pub columns: &'a [Word],
+    pub degrees: &'a [Word],
+    pub nch: u8,
+    pub nq: u8,
+    pub limit: usize,
+    outgoing: &'static Outgoing,
+    lift_from: usize,
+    lifted: &'static Halves,
+}
 
 /// A frame that nothing is wrong with.
 pub struct Frame<'a> {
-    starts: &'a [Word],
-    columns: &'a [Word],
-    degrees: &'a [Word],
+    pub code: Code<'a>,
     values: &'a [[u8; 4]],
     factor: f32,
-    nch: u8,
-    nq: u8,
-    outgoing: &'static Outgoing,
-    limit: usize,
-    lift_from: usize,
-    lifted: &'static Halves,
+}
+
+fn refuse<T>(number: u8, place: usize) -> Result<T, Refusal> {
+    Err(Refusal { number, place })
+}
+
+impl<'a> Code<'a> {
+    /// 8, 9 and 16, on a graph whose degrees are counted.
+    pub fn new(
+        graph: &GraphBytes<'a>,
+        degrees: &'a [Word],
+        settings: &Settings,
+    ) -> Result<Code<'a>, Refusal> {
+        let (nch, nq) = match (settings.channel, settings.message) {
+            (3, 2) => (3, 1),
+            (3, 3) => (3, 3),
+            (4, 3) => (7, 3),
+            (4, 4) => (7, 7),
+            _ => return refuse(8, 0),
+        };
+        if settings.phi_s.max(settings.phi_a).max(settings.phi_0) > 1 || settings.limit > 255 {
+            return refuse(9, 0);
+        }
+        let lifts = (1..=NEVER).contains(&settings.lift_from)
+            && (u32::from(nq) + 1..=LARGEST_LIFT).contains(&settings.lift_to);
+        if !lifts {
+            return refuse(16, 0);
+        }
+        let (starts, columns) = graph::lists(graph);
+        Ok(Code {
+            starts,
+            columns,
+            degrees,
+            nch,
+            nq,
+            limit: settings.limit as usize,
+            outgoing: Outgoing::of(settings),
+            lift_from: settings.lift_from as usize,
+            lifted: lifted(settings),
+        })
+    }
+
+    /// 6 for any list but that of the degrees.
+    pub fn check_lengths(&self, lent: &LentLengths) -> Result<(), Refusal> {
+        let n = self.degrees.len();
+        let long_enough = lent.levels.min(lent.bits).min(lent.sums / 4) >= n
+            && lent.variable_messages.min(lent.check_messages) >= self.columns.len();
+        if long_enough { Ok(()) } else { refuse(6, 0) }
+    }
+
+    /// What messages add to sums in an iteration. No run comes to the one that means never.
+    pub fn halves_in(&self, iteration: usize) -> &'static Halves {
+        if iteration < self.lift_from { &HALVES } else { self.lifted }
+    }
+
+    pub fn odd_checks(&self, bits: &[u8]) -> impl Iterator<Item = bool> {
+        graph::rows(self.starts).map(|(start, end)| {
+            let columns = self.columns[start..end].iter();
+            let parity = columns.fold(0, |parity, &column| parity ^ bits[number(column)]);
+            parity == 1
+        })
+    }
 }
 
 pub fn first_bad_value(values: &[[u8; 4]]) -> Option<usize> {
@@ -32,12 +100,13 @@ fn is_blank(values: &[[u8; 4]], factor: f32) -> bool {
     values.iter().all(|&value| factor * f32::from_le_bytes(value).abs() <= 1.0)
 }
 
+/// Begin calls it too; decode is as fast as if it did not.
+#[inline(always)]
 pub fn prepare<'a>(
     input: &DecodeInput<'a>,
     degrees: &'a mut [u8],
     lent: &LentLengths,
 ) -> Result<Frame<'a>, Refusal> {
-    let refuse = |number, place| Err(Refusal { number, place });
     let (starts, columns) = graph::lists(&input.graph);
     let n = input.graph.n;
     let degrees = graph::check(n, starts, columns, degrees)?;
@@ -45,23 +114,8 @@ pub fn prepare<'a>(
     if values.len() != n {
         return refuse(13, values.len());
     }
-    let settings = &input.settings;
-    let (nch, nq) = match (settings.channel, settings.message) {
-        (3, 2) => (3, 1),
-        (3, 3) => (3, 3),
-        (4, 3) => (7, 3),
-        (4, 4) => (7, 7),
-        _ => return refuse(8, 0),
-    };
-    if settings.phi_s.max(settings.phi_a).max(settings.phi_0) > 1 || settings.limit > 255 {
-        return refuse(9, 0);
-    }
-    let lifts = (1..=NEVER).contains(&settings.lift_from)
-        && (u32::from(nq) + 1..=LARGEST_LIFT).contains(&settings.lift_to);
-    if !lifts {
-        return refuse(16, 0);
-    }
-    let Some(factor) = factor(settings) else {
+    let code = Code::new(&input.graph, degrees, &input.settings)?;
+    let Some(factor) = factor(&input.settings) else {
         return refuse(10, 0);
     };
     if !(factor > 0.0 && factor <= f32::MAX) {
@@ -73,25 +127,8 @@ pub fn prepare<'a>(
     if is_blank(values, factor) {
         return refuse(20, 0);
     }
-    let entries = columns.len();
-    let long_enough = lent.levels.min(lent.bits).min(lent.sums / 4) >= n
-        && lent.variable_messages.min(lent.check_messages) >= entries;
-    if !long_enough {
-        return refuse(6, 0);
-    }
-    Ok(Frame {
-        starts,
-        columns,
-        degrees,
-        values,
-        factor,
-        nch,
-        nq,
-        outgoing: Outgoing::of(settings),
-        limit: settings.limit as usize,
-        lift_from: settings.lift_from as usize,
-        lifted: lifted(settings),
-    })
+    code.check_lengths(lent)?;
+    Ok(Frame { code, values, factor })
 }
 
 fn factor(settings: &Settings) -> Option<f32> {
@@ -104,46 +141,99 @@ fn factor(settings: &Settings) -> Option<f32> {
     }
 }
 
-pub fn run(frame: &Frame, lent: &mut Lent) -> Decoded {
-    let (n, entries) = (frame.values.len(), frame.columns.len());
+/// An iteration of a run, in lists of just the lengths that it needs.
+pub struct State<'a> {
+    pub levels: &'a [u8],
+    pub variable_messages: &'a mut [u8],
+    pub check_messages: &'a mut [u8],
+    pub bits: &'a mut [u8],
+    pub iteration: usize,
+    /// The channel level's part of each sum.
+    pub own: Vec<i32>,
+    pub sums: Vec<i32>,
+    pub halves: &'static Halves,
+}
+
+/// Iteration 0 in the lent lists, but for the sums. As above.
+#[inline(always)]
+pub fn first<'a>(frame: &Frame, lent: &'a mut Lent) -> State<'a> {
+    let Frame { code, values, .. } = frame;
+    let (n, entries) = (values.len(), code.columns.len());
     let levels = &mut lent.levels[..n];
     let variable_messages = &mut lent.variable_messages[..entries];
     let check_messages = &mut lent.check_messages[..entries];
     let bits = &mut lent.bits[..n];
 
     quantise(frame, levels);
-    for (message, &column) in variable_messages.iter_mut().zip(frame.columns) {
+    for (message, &column) in variable_messages.iter_mut().zip(code.columns) {
         let level = levels[number(column)];
-        *message = (level & MINUS) | (level & 0x7f).min(frame.nq);
+        *message = (level & MINUS) | (level & 0x7f).min(code.nq);
     }
     for (bit, &level) in bits.iter_mut().zip(levels.iter()) {
         *bit = level >> 7;
     }
     check_messages.fill(0);
-    let own = channel_halves(levels, frame.degrees);
-    let mut sums = vec![0; n];
+    let own = channel_halves(levels, code.degrees);
+    State {
+        levels,
+        variable_messages,
+        check_messages,
+        bits,
+        iteration: 0,
+        own,
+        sums: vec![0; n],
+        halves: &HALVES,
+    }
+}
 
-    let mut halves = &HALVES;
-    let mut iterations = 0;
-    while iterations < frame.limit && odd_checks(frame, bits).any(|odd| odd) {
-        if iterations > 0 {
-            send_from_variables(frame, halves, &sums, check_messages, variable_messages);
+impl State<'_> {
+    /// The last step of this iteration, if it has one, and the next up to its bits.
+    pub fn advance(&mut self, code: &Code) {
+        if self.iteration > 0 {
+            send_from_variables(
+                code,
+                self.halves,
+                &self.sums,
+                self.check_messages,
+                self.variable_messages,
+            );
         }
-        iterations += 1;
-        // No run comes to the iteration that means never.
-        if iterations == frame.lift_from {
-            halves = frame.lifted;
-        }
-        sums.copy_from_slice(&own);
-        send_from_checks(frame, halves, variable_messages, check_messages, &mut sums);
-        for ((bit, &sum), &level) in bits.iter_mut().zip(&sums).zip(levels.iter()) {
+        self.iteration += 1;
+        self.halves = code.halves_in(self.iteration);
+        self.sums.copy_from_slice(&self.own);
+        let (from, to) = (&*self.variable_messages, &mut *self.check_messages);
+        send_from_checks(code, self.halves, from, to, &mut self.sums);
+        for ((bit, &sum), &level) in self.bits.iter_mut().zip(&self.sums).zip(self.levels) {
             *bit = u8::from(sum < 0) | (u8::from(sum == 0) & (level >> 7));
         }
     }
-    for (sum, out) in sums.iter().zip(lent.sums.chunks_exact_mut(4)) {
+
+    /// Whether some check is odd.
+    pub fn is_no_codeword(&self, code: &Code) -> bool {
+        code.odd_checks(self.bits).any(|odd| odd)
+    }
+
+    /// The iteration and its unsatisfied checks, and the sums to be stored.
+    pub fn ended(self, code: &Code) -> (usize, usize, Vec<i32>) {
+        let unsatisfied = code.odd_checks(self.bits).filter(|&odd| odd).count();
+        (self.iteration, unsatisfied, self.sums)
+    }
+}
+
+pub fn store_sums(sums: &[i32], lent: &mut [u8]) {
+    for (sum, out) in sums.iter().zip(lent.chunks_exact_mut(4)) {
         out.copy_from_slice(&sum.to_le_bytes());
     }
-    let unsatisfied = odd_checks(frame, bits).filter(|&odd| odd).count();
+}
+
+pub fn run(frame: &Frame, lent: &mut Lent) -> Decoded {
+    let code = &frame.code;
+    let mut state = first(frame, lent);
+    while state.iteration < code.limit && state.is_no_codeword(code) {
+        state.advance(code);
+    }
+    let (iterations, unsatisfied, sums) = state.ended(code);
+    store_sums(&sums, lent.sums);
     Decoded {
         verdict: match unsatisfied {
             0 => Verdict::Codeword,
@@ -159,7 +249,7 @@ fn quantise(frame: &Frame, levels: &mut [u8]) {
         let value = f32::from_le_bytes(value);
         let p = frame.factor * value.abs();
         let mut magnitude = 0;
-        for threshold in 1..=frame.nch {
+        for threshold in 1..=frame.code.nch {
             magnitude += u8::from(f32::from(threshold) < p);
         }
         *level = magnitude | ((value.to_bits() >> 24) as u8 & MINUS);
@@ -167,7 +257,7 @@ fn quantise(frame: &Frame, levels: &mut [u8]) {
 }
 
 /// The channel level's part of each sum.
-fn channel_halves(levels: &[u8], degrees: &[Word]) -> Vec<i32> {
+pub fn channel_halves(levels: &[u8], degrees: &[Word]) -> Vec<i32> {
     let halves = |(&level, &degree): (&u8, &Word)| {
         let extra = match number(degree) {
             2 => 0,
@@ -179,18 +269,10 @@ fn channel_halves(levels: &[u8], degrees: &[Word]) -> Vec<i32> {
     levels.iter().zip(degrees).map(halves).collect()
 }
 
-fn odd_checks(frame: &Frame, bits: &[u8]) -> impl Iterator<Item = bool> {
-    graph::rows(frame.starts).map(|(start, end)| {
-        let columns = frame.columns[start..end].iter();
-        let parity = columns.fold(0, |parity, &column| parity ^ bits[number(column)]);
-        parity == 1
-    })
-}
-
 /// By itself this pass has registers enough for the table of contributions.
 #[inline(never)]
-fn send_from_checks(frame: &Frame, halves: &Halves, from: &[u8], to: &mut [u8], sums: &mut [i32]) {
-    for (start, end) in graph::rows(frame.starts) {
+fn send_from_checks(code: &Code, halves: &Halves, from: &[u8], to: &mut [u8], sums: &mut [i32]) {
+    for (start, end) in graph::rows(code.starts) {
         let (mut least, mut second, mut signs) = (u8::MAX, u8::MAX, 0);
         for &message in &from[start..end] {
             let magnitude = message & 0x7f;
@@ -200,7 +282,7 @@ fn send_from_checks(frame: &Frame, halves: &Halves, from: &[u8], to: &mut [u8], 
         }
         // Where the least is tied the second equals it, so the value names the place.
         let row = from[start..end].iter().zip(&mut to[start..end]);
-        for ((&own, out), &column) in row.zip(&frame.columns[start..end]) {
+        for ((&own, out), &column) in row.zip(&code.columns[start..end]) {
             let magnitude = if own & 0x7f == least { second } else { least };
             let message = magnitude | ((signs ^ own) & MINUS);
             *out = message;
@@ -211,9 +293,9 @@ fn send_from_checks(frame: &Frame, halves: &Halves, from: &[u8], to: &mut [u8], 
 
 /// As above.
 #[inline(never)]
-fn send_from_variables(frame: &Frame, halves: &Halves, sums: &[i32], from: &[u8], to: &mut [u8]) {
-    for ((&message, out), &column) in from.iter().zip(to).zip(frame.columns) {
+fn send_from_variables(code: &Code, halves: &Halves, sums: &[i32], from: &[u8], to: &mut [u8]) {
+    for ((&message, out), &column) in from.iter().zip(to).zip(code.columns) {
         let sum = sums[number(column)] - halves[usize::from(message)];
-        *out = frame.outgoing.message(sum);
+        *out = code.outgoing.message(sum);
     }
 }

@@ -4,8 +4,8 @@ use super::{Fault, Faulty, last_bad_value};
 use crate::generate::Lists;
 use crate::harness::check::level_bytes;
 use crate::interface::{
-    Answer, BlocksBytes, DecodeInput, Decoded, Decoder, EncodeInput, GraphBytes, Lent, LentLengths,
-    SheetCounts, f32_list, i32_bytes, number_bytes, numbers,
+    AdvanceInput, Answer, BlocksBytes, DecodeInput, Decoded, Decoder, EncodeInput, GraphBytes,
+    Lent, Record, SheetCounts, f32_list, i32_bytes, number_bytes, numbers,
 };
 use crate::paper::{self, Limits, Outcome, Refusal, Sheet};
 
@@ -70,6 +70,45 @@ impl Faulty {
         }
     }
 
+    /// Decodes in what is lent.
+    pub fn decode_in(
+        &self,
+        input: &DecodeInput,
+        degrees: &mut [u8],
+        lent: &mut Lent,
+    ) -> Result<Outcome, Refusal> {
+        let (n, lengths) = (Some(input.graph.n), lent.lengths());
+        let call = |degrees: &mut [u32]| self.outcome(input, degrees, &lengths);
+        let outcome = match self.on_degrees(degrees, n, call) {
+            Ok(outcome) => outcome,
+            Err(refusal) => {
+                if self.has(Fault::WrittenWhenRefused) && refusal.number == 12 {
+                    lent.levels.fill(0);
+                }
+                if self.has(Fault::LevelBeforeTwenty) && refusal.number == 20 {
+                    lent.levels.iter_mut().take(1).for_each(|level| *level ^= 128);
+                }
+                return Err(refusal);
+            }
+        };
+        let lists = [
+            (&mut *lent.levels, level_bytes(&outcome.levels)),
+            (&mut *lent.variable_messages, level_bytes(&outcome.variable_messages)),
+            (&mut *lent.check_messages, level_bytes(&outcome.check_messages)),
+            (&mut *lent.sums, i32_bytes(&outcome.sums)),
+            (&mut *lent.bits, outcome.bits.clone()),
+        ];
+        for (buffer, list) in lists {
+            put(buffer, &list);
+            if let (true, Some(past)) =
+                (self.has(Fault::BytePastTheLength), buffer.get_mut(list.len()))
+            {
+                *past = 0;
+            }
+        }
+        Ok(outcome)
+    }
+
     fn read(
         &self,
         text: &[u8],
@@ -110,45 +149,12 @@ pub fn place<T>(answer: Result<T, Refusal>) -> usize {
 
 impl Decoder for Faulty {
     fn decode(&self, input: &DecodeInput, degrees: &mut [u8], lent: &mut Lent) -> Answer<Decoded> {
-        let buffers: [&mut [u8]; 5] = [
-            &mut *lent.levels,
-            &mut *lent.variable_messages,
-            &mut *lent.check_messages,
-            &mut *lent.sums,
-            &mut *lent.bits,
-        ];
-        let lengths = LentLengths::from_array(buffers.each_ref().map(|buffer| buffer.len()));
-        let n = Some(input.graph.n);
-        let call = |degrees: &mut [u32]| self.outcome(input, degrees, &lengths);
-        let outcome = match self.on_degrees(degrees, n, call) {
-            Ok(outcome) => outcome,
-            Err(refusal) => {
-                if self.has(Fault::WrittenWhenRefused) && refusal.number == 12 {
-                    lent.levels.fill(0);
-                }
-                if self.has(Fault::LevelBeforeTwenty) && refusal.number == 20 {
-                    lent.levels.iter_mut().take(1).for_each(|level| *level ^= 128);
-                }
-                return Answer::Refused(refusal.number);
+        match self.decode_in(input, degrees, lent) {
+            Ok(Outcome { verdict, iterations, unsatisfied, .. }) => {
+                Answer::Accepted(Decoded { verdict, iterations, unsatisfied })
             }
-        };
-        let lists = [
-            level_bytes(&outcome.levels),
-            level_bytes(&outcome.variable_messages),
-            level_bytes(&outcome.check_messages),
-            i32_bytes(&outcome.sums),
-            outcome.bits,
-        ];
-        for (buffer, list) in buffers.into_iter().zip(lists) {
-            put(buffer, &list);
-            if let (true, Some(past)) =
-                (self.has(Fault::BytePastTheLength), buffer.get_mut(list.len()))
-            {
-                *past = 0;
-            }
+            Err(refusal) => Answer::Refused(refusal.number),
         }
-        let Outcome { verdict, iterations, unsatisfied, .. } = outcome;
-        Answer::Accepted(Decoded { verdict, iterations, unsatisfied })
     }
 
     fn decode_place(
@@ -174,6 +180,28 @@ impl Decoder for Faulty {
             Ok(()) if number == 12 => values.iter().position(|v| !v.is_finite()).unwrap_or(0),
             Ok(()) => 0,
         }
+    }
+
+    fn begin(&self, input: &DecodeInput, degrees: &mut [u8], lent: &mut Lent) -> Answer<Record> {
+        self.begin_faulty(input, degrees, lent)
+    }
+
+    fn begin_place(
+        &self,
+        graph: &GraphBytes,
+        values: &[u8],
+        number: u8,
+        degrees: &mut [u8],
+    ) -> usize {
+        self.decode_place(graph, values, number, degrees)
+    }
+
+    fn advance(&self, input: &AdvanceInput, degrees: &mut [u8], lent: &mut Lent) -> Answer<Record> {
+        self.advance_faulty(input, degrees, lent)
+    }
+
+    fn advance_place(&self, graph: &GraphBytes, degrees: &mut [u8]) -> usize {
+        self.advance_place_faulty(graph, degrees)
     }
 
     fn read_sheet(

@@ -19,19 +19,21 @@ pub fn found(fault: Fault) -> Failure {
 
 /// The graph entries of a failing decode, and its iteration limit; a codeword that encode gave is
 /// decoded with limit 0.
-fn size(failure: &Failure) -> (usize, u32) {
+pub fn size(failure: &Failure) -> (usize, u32) {
     match &failure.case {
         Case::Decode(case) => (case.entries(), case.settings.limit),
         Case::Twin(case) => (case.decode.entries(), case.decode.settings.limit),
         Case::Encode(case) => (case.columns.len() / NUMBER_BYTES, 0),
+        Case::Run(case) => (case.decode.entries(), case.decode.settings.limit),
+        Case::Advance(case) => (case.entries(), case.settings.limit),
         other => panic!("found in {other:?}"),
     }
 }
 
 #[test]
 fn nothing_without_a_fault() {
-    let series = harness::run(&Faulty(Fault::None), SEED, Budget::Inputs(8_000));
-    assert_eq!(series.inputs, 8_000);
+    let series = harness::run(&Faulty(Fault::None), SEED, Budget::Inputs(12_000));
+    assert_eq!(series.inputs, 12_000);
     assert!(series.failure.is_none());
 }
 
@@ -43,6 +45,12 @@ fn nothing_in_the_fast_decoder() {
     // Every refusal of each call is among the inputs.
     for number in [2, 3, 4, 5, 6, 7, 8, 9, 10, 11, 12, 13, 16, 20] {
         assert!(series.tally.contains_key(&("decode", number)), "decode {number}");
+    }
+    for number in [0, 2, 3, 4, 5, 6, 7, 8, 9, 10, 11, 12, 13, 16, 20] {
+        assert!(series.tally.contains_key(&("begin", number)), "begin {number}");
+    }
+    for number in [0, 2, 3, 4, 5, 6, 7, 8, 9, 16, 21] {
+        assert!(series.tally.contains_key(&("advance", number)), "advance {number}");
     }
     for number in [1, 2, 3, 4, 5, 6] {
         assert!(series.tally.contains_key(&("read", number)), "read {number}");
@@ -66,7 +74,7 @@ fn nothing_in_the_fast_decoder() {
 fn a_tie_to_bit_0() {
     // A variable of degree 1 and its partners tie in the first iteration: one is exposed.
     let (entries, limit) = size(&found(Fault::TieToBit0));
-    assert!(entries <= 3 && limit == 1, "{entries} {limit}");
+    assert!(entries <= 4 && limit == 1, "{entries} {limit}");
 }
 
 #[test]
@@ -183,8 +191,9 @@ pub fn messages<const COUNT: usize>(faults: [Fault; COUNT]) -> [String; COUNT] {
             Case::Write(case) => case.columns.len() / NUMBER_BYTES,
             Case::WriteBlocks(case) => case.entries.len() / ENTRY_BYTES,
             Case::Decode(_) | Case::Twin(_) | Case::Encode(_) => size(&failure).0,
+            Case::Run(_) | Case::Advance(_) => size(&failure).0,
         };
-        assert!(entries <= 64, "{fault:?}");
+        assert!(entries <= 128, "{fault:?}");
         failure.message
     })
 }

@@ -4,7 +4,7 @@ use super::{Fault, Faulty};
 use crate::interface::{LARGEST_LIFT, NEVER, Settings};
 use crate::paper::quantiser::largest_magnitude;
 use crate::paper::rules::{self, Lifting};
-use crate::paper::run::{Checked, check_settings};
+use crate::paper::run::{Rules, check_settings};
 use crate::paper::{Level, Outcome};
 
 /// The two sums of a variable in which messages count.
@@ -20,7 +20,7 @@ impl Faulty {
         &self,
         entries: &[usize],
         sum: Sum,
-        settings: &Checked,
+        rules: &Rules,
         outcome: &Outcome,
     ) -> Vec<Level> {
         let messages = entries.iter().map(|&entry| outcome.check_messages[entry]);
@@ -30,51 +30,51 @@ impl Faulty {
         };
         match as_it_is {
             true => messages.collect(),
-            false => messages.map(|m| self.lifted(m, settings, outcome.iterations)).collect(),
+            false => messages.map(|m| self.lifted(m, rules, outcome.iterations)).collect(),
         }
     }
 
-    fn lifted(&self, message: Level, settings: &Checked, iteration: usize) -> Level {
-        let lifting = match settings.lifting.from {
+    fn lifted(&self, message: Level, rules: &Rules, iteration: usize) -> Level {
+        let lifting = match rules.lifting.from {
             Some(from) if self.has(Fault::LiftedFromTheNextOn) => {
-                Lifting { from: Some(from + 1), ..settings.lifting }
+                Lifting { from: Some(from + 1), ..rules.lifting }
             }
             None if self.has(Fault::NeverWrappedToZero) => {
-                Lifting { from: Some(0), ..settings.lifting }
+                Lifting { from: Some(0), ..rules.lifting }
             }
-            _ => settings.lifting,
+            _ => rules.lifting,
         };
         if self.has(Fault::PlusAloneLifted) && message.minus {
             return message;
         }
         let lifted_from = match self.has(Fault::EveryMagnitudeLifted) {
             true => message.magnitude,
-            false => settings.nq,
+            false => rules.nq,
         };
         rules::counted(message, iteration, lifted_from, lifting)
     }
 
     /// A channel level as it counts, which is as it is.
-    pub fn counted_level(&self, level: Level, settings: &Checked, iteration: usize) -> Level {
+    pub fn counted_level(&self, level: Level, rules: &Rules, iteration: usize) -> Level {
         match self.has(Fault::LevelsLifted) {
-            true => rules::counted(level, iteration, settings.nq, settings.lifting),
+            true => rules::counted(level, iteration, rules.nq, rules.lifting),
             false => level,
         }
     }
 
-    pub fn first_message(&self, level: Level, settings: &Checked) -> Level {
-        let message = rules::first_message(level, settings.nq);
+    pub fn first_message(&self, level: Level, rules: &Rules) -> Level {
+        let message = rules::first_message(level, rules.nq);
         match self.has(Fault::FirstMessagesLifted) {
-            true => rules::counted(message, 1, settings.nq, settings.lifting),
+            true => rules::counted(message, 1, rules.nq, rules.lifting),
             false => message,
         }
     }
 
     /// Where the fault is that the message list has what counts in place of what was sent.
-    pub fn store_as_counted(&self, settings: &Checked, outcome: &mut Outcome) {
+    pub fn store_as_counted(&self, rules: &Rules, outcome: &mut Outcome) {
         if self.has(Fault::LiftedAsStored) {
             for message in &mut outcome.check_messages {
-                *message = self.lifted(*message, settings, outcome.iterations);
+                *message = self.lifted(*message, rules, outcome.iterations);
             }
         }
     }

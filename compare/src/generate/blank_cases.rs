@@ -126,7 +126,8 @@ fn twins() -> Vec<TwinCase> {
         for values in frames {
             let decode = decode_case(&lists, &values, settings);
             let words = (0..8).map(|word| [word & 1, word >> 1 & 1, word >> 2].to_vec());
-            twins.extend(words.map(|word| TwinCase { decode: decode.clone(), word }));
+            let twin = |word| TwinCase { decode: decode.clone(), word, counts: vec![1, 1] };
+            twins.extend(words.map(twin));
         }
     }
     twins
@@ -230,7 +231,7 @@ mod tests {
 
     #[test]
     fn twins_are_blank_or_not() {
-        for TwinCase { decode, word } in twins() {
+        for TwinCase { decode, word, .. } in twins() {
             assert_eq!(word.len(), decode.n);
             let is_exposed = f32_list(&decode.values).contains(&1.0_f32.next_up());
             assert_eq!(decode.outcome().is_ok(), is_exposed);

@@ -2,14 +2,15 @@
 
 use super::codewords::Codewords;
 use super::encoding::{self, EncodeCase};
+use super::pause::{self, AdvanceCase, RunCase};
 use super::{
-    Lists, blank, blank_cases, blank_orders, block_limits, block_orders, blocks, damage,
-    encode_limits, encode_orders, graphs, lifting, limits, orders, refusals, settings, texts,
+    Lists, advance_cases, advance_orders, blank, blank_cases, blank_orders, block_limits,
+    block_orders, blocks, damage, encode_limits, encode_orders, graphs, lifting, limits, orders,
+    pause_cases, refusals, settings, texts,
 };
 use crate::interface::{
     LentLengths, NEVER, NUMBER_BYTES, Settings, f32_bytes, f32_list, number_bytes, numbers,
 };
-use crate::paper::blocks::text_of;
 use crate::paper::run::check_settings;
 use crate::paper::{self, Blocks, Entry, Graph, Limits, Outcome, Refusal};
 use crate::random::Random;
@@ -92,11 +93,12 @@ impl WriteBlocksCase {
 }
 
 /// A decode that is accepted, or whose frame is blank, and a word whose ones say which values are
-/// negated in its twin.
+/// negated in its twin. Both runs are also begun, and advanced by these counts.
 #[derive(Clone, Debug)]
 pub struct TwinCase {
     pub decode: DecodeCase,
     pub word: Vec<u8>,
+    pub counts: Vec<u32>,
 }
 
 #[derive(Clone, Debug)]
@@ -108,18 +110,15 @@ pub enum Case {
     ReadBlocks(ReadCase),
     WriteBlocks(WriteBlocksCase),
     Encode(EncodeCase),
-}
-
-/// An input of the program: its file, if there is one, and its standard input.
-pub struct ProgramCase {
-    pub code: Option<Vec<u8>>,
-    pub run_text: Vec<u8>,
+    Run(RunCase),
+    Advance(AdvanceCase),
 }
 
 /// The inputs at the program's limits and one past them, every order of refusals around the
 /// list of degrees and of decode's others, every admitted W, block sheets and the writing side by
-/// every pair of refusals and around every limit, and blank frames at every precision and scaling
-/// and in every order; they are in every series.
+/// every pair of refusals and around every limit, blank frames at every precision and scaling
+/// and in every order, and runs that are paused, with every split and every pair of refusals; they
+/// are in every series.
 pub fn at_small_limits(random: &mut Random) -> Vec<Case> {
     let mut cases = orders::cases();
     cases.extend(refusals::cases());
@@ -147,13 +146,23 @@ pub fn at_small_limits(random: &mut Random) -> Vec<Case> {
     cases.extend(encode_limits::cases(random));
     cases.extend(blank_cases::cases());
     cases.extend(blank_orders::cases());
+    cases.extend(pause_cases::cases());
+    cases.extend(advance_cases::cases());
+    cases.extend(advance_orders::cases());
     cases
 }
 
-/// The writing side is chosen beside the other calls, whose inputs stay what they were without it.
+/// The writing side and paused runs are chosen beside the other calls, whose inputs stay what they
+/// were without them.
 pub fn any(random: &mut Random) -> Case {
-    if random.clone().one_in(13) {
+    let chosen = &mut random.clone();
+    if chosen.one_in(13) {
         return Case::Encode(encoding::any(random));
+    }
+    match chosen.below(24) {
+        0 | 1 => return Case::Run(pause::any_run(random)),
+        2..=4 => return Case::Advance(pause::any_advance(random)),
+        _ => {}
     }
     match random.below(24) {
         0..=10 => Case::Decode(any_decode(random)),
@@ -249,7 +258,7 @@ pub fn damages(random: &mut Random) -> usize {
     }
 }
 
-fn any_decode(random: &mut Random) -> DecodeCase {
+pub fn any_decode(random: &mut Random) -> DecodeCase {
     let large = random.one_in(2_000);
     let mut lists =
         if large { graphs::large(Limits::PROGRAM, random) } else { graphs::any(random) };
@@ -285,7 +294,7 @@ fn any_decode(random: &mut Random) -> DecodeCase {
 
 /// Values for a factor. One frame in sixteen is blank or nearly so; of the others most that come
 /// out blank are cured. This is chosen beside the values, so that it changes no other frame.
-fn any_values(random: &mut Random, count: usize, factor: f32) -> Vec<f32> {
+pub fn any_values(random: &mut Random, count: usize, factor: f32) -> Vec<f32> {
     let chosen = &mut random.clone();
     let mut values = settings::values(random, count, factor);
     match chosen.below(16) {
@@ -343,55 +352,6 @@ fn any_twin_of(random: &mut Random, lists: &Lists) -> TwinCase {
     if random.one_in(4) {
         lifting::lift_around_stop(random, &mut decode);
     }
-    TwinCase { decode, word }
-}
-
-/// The program's inputs at its limits.
-pub fn programs_at_limits() -> Vec<ProgramCase> {
-    let case = |(code, run_text)| ProgramCase { code: Some(code), run_text };
-    limits::programs().into_iter().map(case).collect()
-}
-
-/// The program's inputs with a block sheet for a sheet, whole and in parts: "never by `frame`".
-pub fn programs_of_blocks(random: &mut Random) -> Vec<ProgramCase> {
-    let mut programs = Vec::new();
-    for _ in 0..20 {
-        let blocks = blocks::any(random);
-        let settings = settings::good(random);
-        let values = settings::values(random, blocks.columns * blocks.size, 1.0);
-        let run_text = texts::run_text(&settings, &values);
-        programs.push(ProgramCase { code: Some(text_of(&blocks)), run_text });
-    }
-    let run_text = texts::run_text(&settings::good(random), &[1.0, -1.0]);
-    let mut more = |code: &[u8]| {
-        programs.push(ProgramCase { code: Some(code.to_vec()), run_text: run_text.clone() });
-    };
-    more(b"size rows columns\n1 1 2\nrow column shift\n0 0 0\n0 1 0\n");
-    more(b"size rows columns\n0 1 2\nrow column shift\n");
-    more(b"variables checks\n1 1 2\nrow column shift\n0 0 0\n0 1 0\n");
-    more(b"variables checks\n2 1\nrow column shift\n0 0 0\n0 1 0\n");
-    more(b"variables checks\n2 1\ncheck variable\n0 0 0\n0 1 0\n");
-    more(&[&b"size rows columns\n1 1 2\nrow column shift\n"[..], &vec![b'0'; 65_536]].concat());
-    programs
-}
-
-pub fn any_program(random: &mut Random) -> ProgramCase {
-    let lists = graphs::any(random);
-    let mut code = texts::sheet(&lists);
-    if random.one_in(5) {
-        (0..random.between(1, 2)).for_each(|_| texts::damage(Limits::PROGRAM, random, &mut code));
-    }
-    let settings = texts::run_settings(random);
-    let factor = factor_of(&settings);
-    let mut values = any_values(random, lists.n, factor);
-    if random.one_in(10) {
-        settings::spoil_values(random, &mut values);
-    }
-    let mut run_text = texts::run_text(&settings, &values);
-    if random.one_in(3) {
-        (0..random.between(1, 2))
-            .for_each(|_| texts::damage(Limits::PROGRAM, random, &mut run_text));
-    }
-    let code = (!random.one_in(50)).then_some(code);
-    ProgramCase { code, run_text }
+    let counts = pause::counts(&mut random.clone(), decode.settings.limit);
+    TwinCase { decode, word, counts }
 }

@@ -77,6 +77,8 @@ fn damaged(random: &mut Random, number: usize) -> Case {
             Case::ReadBlocks(case) => case.degrees -= 1,
             Case::WriteBlocks(case) => case.degrees -= 1,
             Case::Encode(case) => case.degrees -= 1,
+            Case::Run(case) => case.decode.degrees -= 1,
+            Case::Advance(case) => case.degrees -= 1,
         }
     }
     case
@@ -109,6 +111,6 @@ fn around_codeword(random: &mut Random, number: usize) -> Case {
     let decode = decode_case(&lists, &values, settings);
     match number {
         0 => Case::Decode(decode),
-        _ => Case::Twin(TwinCase { decode, word }),
+        _ => Case::Twin(TwinCase { decode, word, counts: vec![1, 2] }),
     }
 }

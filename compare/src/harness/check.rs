@@ -3,6 +3,7 @@
 use super::arena::{Arena, Part};
 use super::blocks::{check_write_blocks, read_as_ordinary};
 use super::encode::check_encode;
+use super::pause::{check_advance, check_run};
 use super::series::Seen;
 use super::twins::check_twin;
 use crate::generate::cases::{Case, DecodeCase, ReadCase, WriteCase};
@@ -25,6 +26,8 @@ pub fn check(case: &Case, decoder: &dyn Decoder, fill: u64) -> Result<Seen, Stri
         Case::ReadBlocks(case) => check_read(Kind::Blocks, case, decoder, random),
         Case::WriteBlocks(case) => check_write_blocks(case, decoder, random),
         Case::Encode(case) => check_encode(case, decoder, random),
+        Case::Run(case) => check_run(case, decoder, random),
+        Case::Advance(case) => check_advance(case, decoder, random),
     }
 }
 

@@ -2,7 +2,7 @@
 
 use super::series::{Budget, Series};
 use super::shrink::{LONGEST, cut_down};
-use crate::generate::cases::{self, ProgramCase};
+use crate::generate::programs::{self, ProgramCase};
 use crate::paper;
 use crate::random::Random;
 use std::io::{self, Write};
@@ -52,10 +52,10 @@ pub fn run_programs(
 }
 
 fn inputs(seed: u64) -> impl Iterator<Item = ProgramCase> {
-    let random = move |input| cases::any_program(&mut Random::for_input(seed, input));
+    let random = move |input| programs::any(&mut Random::for_input(seed, input));
     let first = (0..INPUTS_BEFORE_LIMITS).map(random);
-    let of_blocks = cases::programs_of_blocks(&mut Random::new(seed));
-    let chosen = cases::programs_at_limits().into_iter().chain(of_blocks);
+    let of_blocks = programs::of_blocks(&mut Random::new(seed));
+    let chosen = programs::at_limits().into_iter().chain(of_blocks);
     first.chain(chosen).chain((INPUTS_BEFORE_LIMITS..).map(random))
 }
 

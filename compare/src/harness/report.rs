@@ -3,7 +3,8 @@
 use super::series::{Failure, Series};
 use crate::generate::cases::{Case, DecodeCase, ReadCase, WriteBlocksCase};
 use crate::generate::encoding::EncodeCase;
-use crate::interface::{f32_list, numbers, positions};
+use crate::generate::pause::AdvanceCase;
+use crate::interface::{Settings, f32_list, numbers, positions};
 use std::fmt::{self, Display, Formatter};
 
 /// A list of at most this many elements is printed whole.
@@ -28,18 +29,40 @@ fn graph(n: usize, starts: &[u8], columns: &[u8]) -> String {
     )
 }
 
+fn digits(value: &f32) -> String {
+    format!("{:08x}", value.to_bits())
+}
+
 fn decode(case: &DecodeCase) -> String {
-    let digits = |value: &f32| format!("{:08x}", value.to_bits());
     let values: Vec<String> = f32_list(&case.values).iter().map(digits).collect();
     let s = &case.settings;
     let mut text = graph(case.n, &case.starts, &case.columns);
     text += &format!("  values ({} bytes) {}\n", case.values.len(), listed(&values));
     text += &format!("  kind {} gain {} variance {}", s.kind, digits(&s.gain), digits(&s.variance));
-    text += &format!(" channel {} message {}", s.channel, s.message);
-    text += &format!(" offsets {} {} {} limit {}", s.phi_s, s.phi_a, s.phi_0, s.limit);
-    text += &format!(" lifted from {} to {}\n", s.lift_from, s.lift_to);
+    text += &unscaled(s);
     text += &format!("  lent bytes {}, then {}\n", case.degrees, listed(&case.lent.as_array()));
     text
+}
+
+/// The settings but for the scaling.
+fn unscaled(s: &Settings) -> String {
+    let mut text = format!(" channel {} message {}", s.channel, s.message);
+    text += &format!(" offsets {} {} {} limit {}", s.phi_s, s.phi_a, s.phi_0, s.limit);
+    text + &format!(" lifted from {} to {}\n", s.lift_from, s.lift_to)
+}
+
+fn advance(case: &AdvanceCase) -> String {
+    let mut text = graph(case.n, &case.starts, &case.columns);
+    text += &format!("  record {:#018x} count {}", case.record, case.count);
+    text += &unscaled(&case.settings);
+    for (name, list) in [
+        ("levels", &case.levels),
+        ("variable messages", &case.variable_messages),
+        ("check messages", &case.check_messages),
+    ] {
+        text += &format!("  {name} ({} bytes) {}\n", list.len(), listed(list));
+    }
+    text + &format!("  lent bytes {}, then {} {}\n", case.degrees, case.sums, case.bits)
 }
 
 fn read(case: &ReadCase) -> String {
@@ -79,13 +102,24 @@ fn encode(case: &EncodeCase) -> String {
 pub fn described(case: &Case) -> String {
     match case {
         Case::Decode(case) => format!("decode\n{}", decode(case)),
-        Case::Twin(case) => {
-            format!("twin decodes\n{}  word {}\n", decode(&case.decode), listed(&case.word))
-        }
+        Case::Twin(case) => format!(
+            "twin decodes\n{}  word {}\n  counts {}\n",
+            decode(&case.decode),
+            listed(&case.word),
+            listed(&case.counts),
+        ),
         Case::Read(case) => format!("read a sheet\n{}", read(case)),
         Case::ReadBlocks(case) => format!("read a block sheet\n{}", read(case)),
         Case::WriteBlocks(case) => format!("write a block sheet\n{}", write_blocks(case)),
         Case::Encode(case) => format!("encode\n{}", encode(case)),
+        Case::Run(case) => {
+            format!(
+                "begin and advance\n{}  counts {}\n",
+                decode(&case.decode),
+                listed(&case.counts)
+            )
+        }
+        Case::Advance(case) => format!("advance\n{}", advance(case)),
         Case::Write(case) => format!(
             "write a sheet\n{}  lent bytes {}, then {}\n",
             graph(case.n, &case.starts, &case.columns),

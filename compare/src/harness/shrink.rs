@@ -2,11 +2,13 @@
 
 mod blocks;
 mod encode;
+mod pause;
 
 use crate::generate::Lists;
 use crate::generate::cases::{Case, DecodeCase, WriteCase};
 use crate::generate::encoding::EncodeCase;
 use crate::generate::graphs::without_idle_variables;
+use crate::generate::pause::AdvanceCase;
 use crate::interface::{
     LARGEST_LIFT, LentLengths, NEVER, NUMBER_BYTES, Settings, f32_bytes, f32_list, number_bytes,
     numbers,
@@ -46,11 +48,14 @@ enum Dimension {
     Buffers,
     Blocks(blocks::Dimension),
     Encode(encode::Dimension),
+    Pause(pause::Dimension),
     Lines,
     Bytes,
 }
 
-const DIMENSIONS: [Dimension; 16] = [
+const DIMENSIONS: [Dimension; 20] = [
+    Dimension::Pause(pause::Dimension::Counts),
+    Dimension::Pause(pause::Dimension::Numbers),
     Dimension::Settings,
     Dimension::Checks,
     Dimension::Variables,
@@ -65,6 +70,8 @@ const DIMENSIONS: [Dimension; 16] = [
     Dimension::Encode(encode::Dimension::Pairs),
     Dimension::Encode(encode::Dimension::Bits),
     Dimension::Encode(encode::Dimension::Lengths),
+    Dimension::Pause(pause::Dimension::Bytes),
+    Dimension::Pause(pause::Dimension::Lengths),
     Dimension::Lines,
     Dimension::Bytes,
 ];
@@ -137,6 +144,7 @@ fn extent(case: &Case, dimension: Dimension) -> usize {
         Dimension::Buffers => 2,
         Dimension::Blocks(dimension) => blocks::extent(case, dimension),
         Dimension::Encode(dimension) => encode::extent(case, dimension),
+        Dimension::Pause(dimension) => pause::extent(case, dimension),
         Dimension::Starts => lists.map_or(0, |lists| lists.starts.len()),
         Dimension::Columns => lists.map_or(0, |lists| lists.columns.len()),
         Dimension::Checks => lists.filter(has_rows).map_or(0, |lists| lists.starts.len() - 1),
@@ -154,6 +162,7 @@ fn cut(case: &Case, dimension: Dimension, part: Range<usize>) -> Option<Case> {
         Dimension::Buffers => with_exact_buffers(case, part),
         Dimension::Blocks(dimension) => blocks::cut(case, dimension, part),
         Dimension::Encode(dimension) => encode::cut(case, dimension, part),
+        Dimension::Pause(dimension) => pause::cut(case, dimension, part),
         Dimension::Starts => {
             let lists = lists_of(case)?;
             let starts = without(&lists.starts, &part);
@@ -167,14 +176,20 @@ fn cut(case: &Case, dimension: Dimension, part: Range<usize>) -> Option<Case> {
         Dimension::Checks => {
             let lists = lists_of(case)?;
             let rows = without(&lists.rows(), &part);
-            let (smaller, kept) = without_idle_variables(&Lists::from_rows(lists.n, &rows));
-            Some(on_lists(case, &smaller, Some(&kept)))
+            let cut = lists.starts[part.start] as usize..lists.starts[part.end] as usize;
+            let entries = (0..lists.columns.len()).filter(|entry| !cut.contains(entry)).collect();
+            let (smaller, variables) = without_idle_variables(&Lists::from_rows(lists.n, &rows));
+            Some(on_lists(case, &smaller, Some(&Kept { variables, entries })))
         }
         Dimension::Variables => {
             let lists = lists_of(case)?;
+            let stays = |&variable: &u32| !part.contains(&(variable as usize));
             let mut rows = lists.rows();
-            rows.iter_mut().for_each(|row| row.retain(|&v| !part.contains(&(v as usize))));
-            let (smaller, kept) = without_idle_variables(&Lists::from_rows(lists.n, &rows));
+            rows.iter_mut().for_each(|row| row.retain(stays));
+            let columns = lists.columns.iter().enumerate();
+            let entries = columns.filter(|(_, variable)| stays(variable)).map(|(e, _)| e).collect();
+            let (smaller, variables) = without_idle_variables(&Lists::from_rows(lists.n, &rows));
+            let kept = Kept { variables, entries };
             (smaller.n < lists.n).then(|| on_lists(case, &smaller, Some(&kept)))
         }
     }
@@ -188,6 +203,7 @@ fn decode_of(case: &Case) -> Option<&DecodeCase> {
     match case {
         Case::Decode(case) => Some(case),
         Case::Twin(case) => Some(&case.decode),
+        Case::Run(case) => Some(&case.decode),
         _ => None,
     }
 }
@@ -197,6 +213,7 @@ fn with_decode(case: &Case, change: impl Fn(&mut DecodeCase)) -> Case {
     match &mut case {
         Case::Decode(decode) => change(decode),
         Case::Twin(twin) => change(&mut twin.decode),
+        Case::Run(run) => change(&mut run.decode),
         _ => {}
     }
     case
@@ -224,7 +241,8 @@ fn with_text(case: &Case, text: Vec<u8>) -> Case {
 fn lists_of(case: &Case) -> Option<Lists> {
     let (n, starts, columns) = match case {
         Case::Write(WriteCase { n, starts, columns, .. })
-        | Case::Encode(EncodeCase { n, starts, columns, .. }) => (*n, starts, columns),
+        | Case::Encode(EncodeCase { n, starts, columns, .. })
+        | Case::Advance(AdvanceCase { n, starts, columns, .. }) => (*n, starts, columns),
         _ => decode_of(case).map(|case| (case.n, &case.starts, &case.columns))?,
     };
     Some(Lists { n, starts: numbers(starts), columns: numbers(columns) })
@@ -241,9 +259,15 @@ fn has_rows(lists: &Lists) -> bool {
         && lists.columns.iter().all(|&column| (column as usize) < lists.n)
 }
 
+/// The variables and entries of a graph that are left of it, by their numbers before.
+struct Kept {
+    variables: Vec<usize>,
+    entries: Vec<usize>,
+}
+
 /// The case on other lists, with the values and word of the variables that were kept, and
 /// the list of degrees and decode's buffers as much too long or short as before.
-fn on_lists(case: &Case, lists: &Lists, kept: Option<&[usize]>) -> Case {
+fn on_lists(case: &Case, lists: &Lists, kept: Option<&Kept>) -> Case {
     let (starts, columns) = (number_bytes(&lists.starts), number_bytes(&lists.columns));
     let mut case = with_decode(case, |decode| {
         let (before, after) = (needed(decode), LentLengths::needed(lists.n, lists.columns.len()));
@@ -257,20 +281,23 @@ fn on_lists(case: &Case, lists: &Lists, kept: Option<&[usize]>) -> Case {
         decode.columns = columns.clone();
         decode.lent = LentLengths::from_array(lent);
         if let Some(kept) = kept {
-            decode.values = f32_bytes(&kept_of(&f32_list(&decode.values), kept));
+            decode.values = f32_bytes(&kept_of(&f32_list(&decode.values), &kept.variables));
         }
     });
     match &mut case {
         Case::Twin(twin) => {
             if let Some(kept) = kept {
-                twin.word = kept_of(&twin.word, kept);
+                twin.word = kept_of(&twin.word, &kept.variables);
             }
         }
         Case::Write(write) => {
             write.degrees = moved(write.degrees, exact_degrees(write.n), exact_degrees(lists.n));
             (write.n, write.starts, write.columns) = (lists.n, starts, columns);
         }
-        Case::Encode(case) => encode::put_on_lists(case, lists, kept),
+        Case::Encode(case) => {
+            encode::put_on_lists(case, lists, kept.map(|kept| &kept.variables[..]));
+        }
+        Case::Advance(case) => pause::put_on_lists(case, lists, kept),
         _ => {}
     }
     case
@@ -326,13 +353,24 @@ fn with_plainer_values(case: &Case, part: Range<usize>) -> Option<Case> {
 }
 
 fn with_settings(case: &Case, settings: Settings) -> Case {
-    with_decode(case, |decode| decode.settings = settings)
+    let mut case = with_decode(case, |decode| decode.settings = settings);
+    if let Case::Advance(advance) = &mut case {
+        advance.settings = settings;
+    }
+    case
+}
+
+fn settings_of(case: &Case) -> Option<Settings> {
+    match case {
+        Case::Advance(case) => Some(case.settings),
+        _ => decode_of(case).map(|case| case.settings),
+    }
 }
 
 /// Settings that are plainer in one way each. Nothing lifted is plainest, then lifting from
 /// early on, so that the limit may come down.
 fn plainer_settings(case: &Case) -> Vec<Settings> {
-    let Some(&DecodeCase { settings: s, .. }) = decode_of(case) else {
+    let Some(s) = settings_of(case) else {
         return Vec::new();
     };
     let lifts_late = (2..NEVER).contains(&s.lift_from);

@@ -1,12 +1,13 @@
 //! Twin runs: values negated where a codeword is 1 give the mirrored run, by the decoder
-//! alone, with lifting off and on: "the codeword symmetry include[s] lifting". Where the word is
-//! no codeword, some iteration limit shows a difference. Any word leaves a blank frame blank, and
-//! makes no other frame blank.
+//! alone, with lifting off and on: "the codeword symmetry include[s] lifting"; and wherever runs
+//! that are begun and advanced halt. Where the word is no codeword, some iteration limit shows a
+//! difference. Any word leaves a blank frame blank, and makes no other frame blank.
 
 use super::series::Seen;
 use crate::generate::cases::{DecodeCase, TwinCase};
 use crate::interface::{
-    Answer, DecodeInput, Decoded, Decoder, GraphBytes, Lent, Settings, number_bytes, numbers,
+    AdvanceInput, Answer, DecodeInput, Decoder, GraphBytes, Lent, Record, Settings, number_bytes,
+    numbers,
 };
 use crate::paper::{Graph, Limits, count_odd_checks};
 
@@ -15,12 +16,19 @@ const BLANK: u8 = 20;
 
 /// What a run reports and leaves behind.
 struct Run {
-    decoded: Decoded,
+    record: Record,
     levels: Vec<u8>,
     variable_messages: Vec<u8>,
     check_messages: Vec<u8>,
     sums: Vec<u8>,
     bits: Vec<u8>,
+}
+
+/// The calls that make a run of a frame.
+#[derive(Clone, Copy)]
+enum Call {
+    Decode,
+    Begin,
 }
 
 pub fn check_twin(case: &TwinCase, decoder: &dyn Decoder) -> Result<Seen, String> {
@@ -33,17 +41,23 @@ pub fn check_twin(case: &TwinCase, decoder: &dyn Decoder) -> Result<Seen, String
         return seen("no twin", 0);
     };
     let degrees = &number_bytes(degrees);
+    let runs = |call, limit| twin_runs(call, limit, case, degrees, decoder);
     if odd_checks == 0 {
-        let Some((run, twin)) = twin_runs(decode.settings.limit, case, degrees, decoder)? else {
+        let limit = decode.settings.limit;
+        let Some((run, twin)) = runs(Call::Decode, limit)? else {
             return seen("twin", BLANK);
         };
         mirrors(&run, &twin, &case.word, &columns)?;
+        let Some(begun) = runs(Call::Begin, limit)? else {
+            return Err("begin finds a blank where decode finds none".to_string());
+        };
+        mirror_wherever_they_halt(begun, case, &columns, decoder)?;
         return seen("twin", 0);
     }
     // A check that is odd in the word turns its messages the other way in iteration 1,
     // unless one of the runs has stopped before.
     for limit in 0..=1 {
-        let Some((run, twin)) = twin_runs(limit, case, degrees, decoder)? else {
+        let Some((run, twin)) = runs(Call::Decode, limit)? else {
             return seen("twin by no codeword", BLANK);
         };
         if mirrors(&run, &twin, &case.word, &columns).is_err() {
@@ -56,6 +70,7 @@ pub fn check_twin(case: &TwinCase, decoder: &dyn Decoder) -> Result<Seen, String
 /// The run on the values, and the run on the values negated where the word is 1, or nothing where
 /// both frames are blank. Both count the same degrees.
 fn twin_runs(
+    call: Call,
     limit: u32,
     case: &TwinCase,
     degrees: &[u8],
@@ -67,12 +82,53 @@ fn twin_runs(
     for (value, &bit) in negated.chunks_exact_mut(4).zip(&case.word) {
         value[3] ^= bit << 7;
     }
-    let run_on = |values: &[u8]| run(&case.decode, values, settings, degrees, decoder);
+    let run_on = |values: &[u8]| run(call, &case.decode, values, settings, degrees, decoder);
     match (run_on(values)?, run_on(&negated)?) {
         (Some(run), Some(twin)) => Ok(Some((run, twin))),
         (None, None) => Ok(None),
         (Some(_), None) => Err("reversing signs makes a blank of a twin run".to_string()),
         (None, Some(_)) => Err("reversing signs cures a blank of a twin run".to_string()),
+    }
+}
+
+/// Two runs that were begun, advanced by the same counts.
+fn mirror_wherever_they_halt(
+    (mut run, mut twin): (Run, Run),
+    case: &TwinCase,
+    columns: &[u32],
+    decoder: &dyn Decoder,
+) -> Result<(), String> {
+    mirrors(&run, &twin, &case.word, columns)?;
+    for &count in &case.counts {
+        let answer = run.advance(&case.decode, count, decoder);
+        let of_twin = twin.advance(&case.decode, count, decoder);
+        if answer != of_twin {
+            return Err(format!("twin runs advance to {answer:?} and {of_twin:?}"));
+        }
+        mirrors(&run, &twin, &case.word, columns)?;
+    }
+    Ok(())
+}
+
+impl Run {
+    fn advance(&mut self, case: &DecodeCase, count: u32, decoder: &dyn Decoder) -> Answer<Record> {
+        let graph = GraphBytes { n: case.n, starts: &case.starts, columns: &case.columns };
+        let record = self.record.number();
+        let answer = decoder.advance(
+            &AdvanceInput { record, graph, settings: case.settings, count },
+            &mut lent_bytes(case.degrees),
+            &mut Lent {
+                levels: &mut self.levels,
+                variable_messages: &mut self.variable_messages,
+                check_messages: &mut self.check_messages,
+                sums: &mut self.sums,
+                bits: &mut self.bits,
+            },
+        );
+        if let Answer::Accepted(record) = answer {
+            self.record = record;
+        }
+        answer
     }
 }
 
@@ -83,6 +139,7 @@ fn lent_bytes(length: usize) -> Vec<u8> {
 
 /// A run, or nothing where the frame is blank.
 fn run(
+    call: Call,
     case: &DecodeCase,
     values: &[u8],
     settings: Settings,
@@ -93,39 +150,40 @@ fn run(
         case.lent.as_array().map(lent_bytes);
     let mut degrees = lent_bytes(case.degrees);
     let graph = GraphBytes { n: case.n, starts: &case.starts, columns: &case.columns };
-    let answer = decoder.decode(
-        &DecodeInput { graph, values, settings },
-        &mut degrees,
-        &mut Lent {
-            levels: &mut levels,
-            variable_messages: &mut variable_messages,
-            check_messages: &mut check_messages,
-            sums: &mut sums,
-            bits: &mut bits,
-        },
-    );
-    let decoded = match answer {
-        Answer::Accepted(decoded) => Some(decoded),
+    let input = DecodeInput { graph, values, settings };
+    let mut lent = Lent {
+        levels: &mut levels,
+        variable_messages: &mut variable_messages,
+        check_messages: &mut check_messages,
+        sums: &mut sums,
+        bits: &mut bits,
+    };
+    let answer = match call {
+        Call::Decode => decoder.decode(&input, &mut degrees, &mut lent).map(Record::from),
+        Call::Begin => decoder.begin(&input, &mut degrees, &mut lent),
+    };
+    let record = match answer {
+        Answer::Accepted(record) => Some(record),
         Answer::Refused(BLANK) => None,
         other => return Err(format!("a twin run is answered {other:?}")),
     };
     if !degrees.starts_with(counted) {
         return Err("a twin run leaves other degrees".to_string());
     }
-    let Some(decoded) = decoded else {
+    let Some(record) = record else {
         let lists = [levels, variable_messages, check_messages, sums, bits];
         return match lists.iter().all(|list| *list == lent_bytes(list.len())) {
             true => Ok(None),
             false => Err("a blank twin run changes what it was lent".to_string()),
         };
     };
-    Ok(Some(Run { decoded, levels, variable_messages, check_messages, sums, bits }))
+    Ok(Some(Run { record, levels, variable_messages, check_messages, sums, bits }))
 }
 
 /// Whether two runs of the same graph and settings mirror each other by the word.
 fn mirrors(run: &Run, twin: &Run, word: &[u8], columns: &[u32]) -> Result<(), String> {
-    if run.decoded != twin.decoded {
-        return Err(format!("twin runs give {:?} and {:?}", run.decoded, twin.decoded));
+    if run.record != twin.record {
+        return Err(format!("twin runs give {:?} and {:?}", run.record, twin.record));
     }
     let by_variable = |bytes: &[u8], turned: u8| -> Vec<u8> {
         bytes.iter().zip(word).map(|(byte, bit)| byte ^ (turned * bit)).collect()
@@ -141,7 +199,7 @@ fn mirrors(run: &Run, twin: &Run, word: &[u8], columns: &[u32]) -> Result<(), St
         turned.flat_map(i32::to_le_bytes).collect()
     };
     // At iteration 0 all check messages and sums are 0 in both runs.
-    let check_messages = match run.decoded.iterations {
+    let check_messages = match run.record.iterations {
         0 => run.check_messages.clone(),
         _ => by_entry(&run.check_messages),
     };

@@ -12,6 +12,11 @@ impl Level {
     pub fn byte(self) -> u8 {
         self.magnitude + if self.minus { 128 } else { 0 }
     }
+
+    /// The level of a byte.
+    pub fn of_byte(byte: u8) -> Level {
+        Level { minus: byte >= 128, magnitude: byte % 128 }
+    }
 }
 
 /// "A scaling is a plain gain, or a gain with a noise variance."

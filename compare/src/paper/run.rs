@@ -3,10 +3,8 @@
 use super::graph::{Graph, check_graph, odd_checks};
 use super::limits::Limits;
 use super::quantiser::{Level, Scaling, largest_magnitude, quantise};
-use super::rules::{
-    Lifting, Offsets, bit, check_message, counted, first_message, outgoing_sum, posterior_sum,
-    variable_message,
-};
+use super::rules::{Lifting, Offsets};
+use super::state::State;
 use super::{Refusal, refuse};
 use crate::interface::{LARGEST_LIFT, LentLengths, NEVER, Settings, Verdict};
 
@@ -23,10 +21,31 @@ pub struct Outcome {
     pub bits: Vec<u8>,
 }
 
+impl Outcome {
+    fn new(verdict: Verdict, unsatisfied: usize, state: State) -> Outcome {
+        Outcome {
+            verdict,
+            iterations: state.iteration,
+            unsatisfied,
+            levels: state.levels,
+            variable_messages: state.variable_messages,
+            check_messages: state.check_messages,
+            sums: state.sums,
+            bits: state.bits,
+        }
+    }
+}
+
 /// Settings that nothing is wrong with.
 #[derive(Clone, Copy, Debug)]
 pub struct Checked {
     pub factor: f32,
+    pub rules: Rules,
+}
+
+/// Those of them that the iterations go by: all but the scaling.
+#[derive(Clone, Copy, Debug)]
+pub struct Rules {
     pub nch: u8,
     pub nq: u8,
     pub offsets: Offsets,
@@ -42,6 +61,19 @@ pub fn decode(
     degrees: &mut [u32],
     lent: &LentLengths,
 ) -> Result<Outcome, Refusal> {
+    let (levels, rules) = accept(limits, graph, values, settings, degrees, lent)?;
+    Ok(run(graph, levels, &rules))
+}
+
+/// What decode turns down; the levels and the rules of the run where that is nothing.
+pub fn accept(
+    limits: Limits,
+    graph: &Graph,
+    values: &[f32],
+    settings: &Settings,
+    degrees: &mut [u32],
+    lent: &LentLengths,
+) -> Result<(Vec<Level>, Rules), Refusal> {
     check_graph(limits, graph, degrees)?;
     if values.len() != graph.n {
         return refuse(13, values.len());
@@ -57,12 +89,12 @@ pub fn decode(
     if !lent.covers(&LentLengths::needed(graph.n, graph.entries())) {
         return refuse(6, 0);
     }
-    Ok(run(graph, levels, &checked))
+    Ok((levels, checked.rules))
 }
 
 /// The level of each channel value.
 fn channel_levels(values: &[f32], settings: &Checked) -> Vec<Level> {
-    values.iter().map(|&y| quantise(settings.factor, settings.nch, y)).collect()
+    values.iter().map(|&y| quantise(settings.factor, settings.rules.nch, y)).collect()
 }
 
 /// "A frame whose channel magnitudes are all 0 is now blank and isn't decoded", whatever the
@@ -73,6 +105,16 @@ fn is_blank(levels: &[Level]) -> bool {
 
 /// 8, 9, 16, 10 and 11, in that order.
 pub fn check_settings(settings: &Settings) -> Result<Checked, Refusal> {
+    let rules = check_rules(settings)?;
+    let factor = scaling(settings)?.factor();
+    if factor.is_infinite() || factor == 0.0 {
+        return refuse(11, 0);
+    }
+    Ok(Checked { factor, rules })
+}
+
+/// 8, 9 and 16, in that order. The scaling is not looked at.
+pub fn check_rules(settings: &Settings) -> Result<Rules, Refusal> {
     let (channel, message) = (settings.channel, settings.message);
     let channel_admitted = channel == 3 || channel == 4;
     if !(channel_admitted && (message == channel || message == channel - 1)) {
@@ -83,13 +125,7 @@ pub fn check_settings(settings: &Settings) -> Result<Checked, Refusal> {
         return refuse(9, 0);
     }
     let nq = largest_magnitude(message);
-    let lifting = lifting(settings, nq)?;
-    let factor = scaling(settings)?.factor();
-    if factor.is_infinite() || factor == 0.0 {
-        return refuse(11, 0);
-    }
-    Ok(Checked {
-        factor,
+    Ok(Rules {
         nch: largest_magnitude(channel),
         nq,
         offsets: Offsets {
@@ -98,7 +134,7 @@ pub fn check_settings(settings: &Settings) -> Result<Checked, Refusal> {
             phi_0: settings.phi_0 as u8,
         },
         limit: settings.limit as usize,
-        lifting,
+        lifting: lifting(settings, nq)?,
     })
 }
 
@@ -126,68 +162,23 @@ fn scaling(settings: &Settings) -> Result<Scaling, Refusal> {
 
 /// "The run stops after the bits of the first iteration, 0 included, that are a codeword,
 /// [...] otherwise at the limit."
-fn run(graph: &Graph, levels: Vec<Level>, settings: &Checked) -> Outcome {
-    let nothing = Level { minus: false, magnitude: 0 };
+fn run(graph: &Graph, levels: Vec<Level>, rules: &Rules) -> Outcome {
     let entries_of_variables = graph.entries_of_variables();
-
-    let sent = |&variable: &u32| first_message(levels[variable as usize], settings.nq);
-    let mut variable_messages: Vec<Level> = graph.columns.iter().map(sent).collect();
-    let mut check_messages = vec![nothing; graph.entries()];
-    let mut sums = vec![0; graph.n];
-    let mut bits: Vec<u8> = levels.iter().map(|level| u8::from(level.minus)).collect();
-
-    let mut iterations = 0;
+    let mut state = State::first(graph, levels, rules.nq);
     loop {
-        let unsatisfied = odd_checks(graph, &bits);
+        let unsatisfied = odd_checks(graph, &state.bits);
         let codeword = unsatisfied == 0;
-        if codeword || iterations == settings.limit {
+        if codeword || state.iteration == rules.limit {
             let verdict = match codeword {
                 true => Verdict::Codeword,
                 false => Verdict::Stopped,
             };
-            return Outcome {
-                verdict,
-                iterations,
-                unsatisfied,
-                levels,
-                variable_messages,
-                check_messages,
-                sums,
-                bits,
-            };
+            return Outcome::new(verdict, unsatisfied, state);
         }
         // The last step of this iteration; iteration 0 has sent its messages already.
-        if iterations > 0 {
-            for (variable, entries) in entries_of_variables.iter().enumerate() {
-                let incoming = counted_in(iterations, settings, &check_messages, entries);
-                for (recipient, &entry) in entries.iter().enumerate() {
-                    let u = outgoing_sum(levels[variable], &incoming, recipient);
-                    variable_messages[entry] = variable_message(u, settings.nq, settings.offsets);
-                }
-            }
+        if state.iteration > 0 {
+            state.send_from_variables(&entries_of_variables, rules);
         }
-        iterations += 1;
-        for row in graph.rows() {
-            let incoming = &variable_messages[row.clone()];
-            for (recipient, entry) in row.enumerate() {
-                check_messages[entry] = check_message(incoming, recipient);
-            }
-        }
-        for (variable, entries) in entries_of_variables.iter().enumerate() {
-            let incoming = counted_in(iterations, settings, &check_messages, entries);
-            sums[variable] = posterior_sum(levels[variable], &incoming);
-            bits[variable] = bit(sums[variable], levels[variable]);
-        }
+        state.iterate(graph, &entries_of_variables, rules);
     }
-}
-
-/// The check messages at these entries as they count in an iteration's sums.
-fn counted_in(
-    iteration: usize,
-    settings: &Checked,
-    check_messages: &[Level],
-    entries: &[usize],
-) -> Vec<Level> {
-    let messages = entries.iter().map(|&entry| check_messages[entry]);
-    messages.map(|message| counted(message, iteration, settings.nq, settings.lifting)).collect()
 }

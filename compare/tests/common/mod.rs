@@ -3,6 +3,7 @@
 
 pub mod blocks;
 pub mod encode;
+pub mod pause;
 
 use compare::interface::{LARGEST_LIFT, LentLengths, NEVER, Settings};
 use compare::paper::{Graph, Level, Limits, Outcome, Refusal, decode};

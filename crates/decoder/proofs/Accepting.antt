@@ -29,7 +29,8 @@ use Rattle.channel.proofs.Accepted.{good-settings}
 use Rattle.channel.specs.Values.{valuesJudged, blankValues}
 use Rattle.decoder.specs.declared.Room.{Room}
 use Rattle.decoder.specs.Decoding.{Frame, Memory, roomOf, graph, enough, askedJudged, isBlank, frameJudged, decodeJudged, decodeFinds, decoded, memoryAfter, Accepts, Decodes, AsBefore, ExposedAsBefore}
-use Rattle.decoder.specs.Steps.{Degrees, Ready}
+use Rattle.running.specs.Steps.{Degrees}
+use Rattle.decoder.specs.Runs.{Ready}
 use Rattle.decoder.specs.declared.Decoded.the-variants as Answers
 use Rattle.decoder.proofs.Beginning.{RunsInto, counted-degrees}
 
@@ -161,7 +162,7 @@ memory-told F g m h =
 
 -- ---- the answers of decode, from what `accept` answers
 
-checked-same : (j : Judged) (s : Settings) {t : Settings} → checked j s ≡ Checks.Good t → s ≡ t
+pub checked-same : (j : Judged) (s : Settings) {t : Settings} → checked j s ≡ Checks.Good t → s ≡ t
 checked-same Admitted s h = cc
 checked-same (Refused x) s h = let z : _≡_ {A = ℕ} 0 1 = cc in absurd (omega arith)
 

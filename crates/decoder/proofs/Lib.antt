@@ -1,7 +1,5 @@
 pub mod Answers
-pub mod Stepping
-pub mod Lifting
-pub mod Running
+pub mod Unlifted
 pub mod Beginning
 pub mod Accepting
 pub mod Twinning

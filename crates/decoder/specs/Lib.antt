@@ -1,5 +1,5 @@
 pub mod Decoding
 pub mod Frames
 pub mod Symmetry
-pub mod Steps
+pub mod Runs
 pub mod Trials

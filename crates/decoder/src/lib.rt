@@ -1,12 +1,14 @@
 // Decodes one frame.
 ghost use mathlib.Core.Path.{_≡_};
-ghost use Prim.Native.Nat.{_≤_};
-ghost use Rattle.rules.specs.Graphs.{limits};
+ghost use Prim.Native.Nat.{_≤_, _<_};
+ghost use lib.ListN.{length};
+ghost use Rattle.rules.specs.Graphs.{limits, Admitted, unsatisfied};
 ghost use Rattle.decoder.specs.Frames.{frame, memory};
-ghost use Rattle.words.specs.Roles.{graphOf};
+ghost use Rattle.words.specs.Roles.{bitOfByte, graphOf};
 ghost use Rattle.nodes.specs.Memory.{levelIn};
 ghost use Rattle.decoder.specs.Decoding.{Decodes, Accepts, enough, roomOf};
-ghost use Rattle.decoder.specs.Steps.{Degrees, Begun, sends, reportAt, RunsUnder, Ready, exact, RunsFrom};
+ghost use Rattle.running.specs.Steps.{Degrees, rulesUnder};
+ghost use Rattle.decoder.specs.Runs.{reportAt, exact, Ready, BeginsFrom, Begun, RunsTo, RunsFrom};
 use channel::Checked;
 use channel::Parameters;
 use channel::Settings;
@@ -14,8 +16,6 @@ use rules::Judged;
 use rules::Refusal;
 use rules::Report;
 use rules::Verdict;
-
-mod step; // the steps of a run
 
 // The lengths of the lent memory, in bytes.
 pub struct Room {
@@ -30,13 +30,6 @@ pub struct Room {
 pub enum Decoded {
     Ran(Report),
     Refused(Refusal),
-}
-
-// Whether the last step of iteration t is done: not where the run is over, and not in iteration 0.
-fn sends(over: bool, t: usize) -> bool
-    ensures { λ r. ⌜ r ≡ sends over t ⌝ }
-{
-    !over & (t != 0)
 }
 
 // The report of a run that stops at iteration t with so many odd checks.
@@ -57,8 +50,7 @@ fn ended(t: usize, odd: usize) -> Report
     }
 }
 
-// The iterations from 0 to the stop. The list of messages is made where it is first read: in iteration 1, if the run goes on. The list of
-// parts is that of the iteration.
+// The iterations from 0 to the stop: the number of the last.
 fn run(
     s: Settings,
     n: usize,
@@ -70,52 +62,34 @@ fn run(
     check_messages: &mut [u8],
     sums: &mut [u8],
     bits: &mut [u8],
-) -> Report
+) -> usize
     requires { ⌜ Begun s (graphOf n (now starts) (now columns)) (now levels) (now degrees) (now «variable_messages») (now «check_messages») (now sums) (now bits) ⌝ }
-    ensures { λ r. ⌜ RunsUnder s (graphOf n (now (starts .entry)) (now (columns .entry))) (levelIn (now (levels .entry))) r (now («variable_messages» .exit)) (now («check_messages» .exit)) (now (sums .exit)) (now (bits .exit)) ⌝ }
+    ensures { λ r. ⌜ RunsTo (graphOf n (now (starts .entry)) (now (columns .entry))) (rulesUnder s (graphOf n (now (starts .entry)) (now (columns .entry))) (levelIn (now (levels .entry)))) (s .limit) r (now («variable_messages» .exit)) (now («check_messages» .exit)) (now (sums .exit)) (now (bits .exit)) ⌝ }
 {
-    let most = channel::largest(s.message);
-    let mut parts = [0i32; 256];
-    nodes::sums::put_contributions(&mut parts, most);
-    let mut messages = [0u8; 35];
-    let mut t: usize = 0;
-    loop {
-        let codeword = syndrome::is_codeword(n, starts, columns, bits);
-        let over = codeword | (s.limit as usize <= t);
-        if !over & (t == 1) {
-            messages = nodes::variable::outgoing_messages(most, s.phi_s, s.phi_a, s.phi_0);
-        }
-        step::send(
-            sends(over, t),
-            columns,
-            check_messages,
-            sums,
-            &parts,
-            &messages,
-            variable_messages,
-        );
-        if over {
-            return ended(t, syndrome::odd_checks(n, starts, columns, bits));
-        }
-        step::lift(t, s, &mut parts);
-        step::iterate(
-            n,
-            starts,
-            columns,
-            levels,
-            degrees,
-            &parts,
-            variable_messages,
-            check_messages,
-            sums,
-            bits,
-        );
-        t += 1;
+    if s.limit == 0 {
+        return 0;
     }
+    if syndrome::is_codeword(n, starts, columns, bits) {
+        return 0;
+    }
+    running::go_on(
+        0,
+        s.limit as usize,
+        s,
+        n,
+        starts,
+        columns,
+        levels,
+        degrees,
+        variable_messages,
+        check_messages,
+        sums,
+        bits,
+    )
 }
 
 // Whether lent memory of these lengths is long enough for n variables and e entries.
-fn long_enough(n: usize, e: usize, room: Room) -> bool
+pub fn long_enough(n: usize, e: usize, room: Room) -> bool
     requires { ⌜ n ≤ limits .variables ⌝ }
     ensures { λ r. ⌜ r ≡ enough n e room ⌝ }
 {
@@ -163,6 +137,51 @@ pub fn accept(
     c
 }
 
+// Iteration 0 of an accepted frame, in memory of exactly the right lengths.
+pub fn begin_exactly(
+    s: Settings,
+    n: usize,
+    starts: &[u8],
+    columns: &[u8],
+    values: &[u8],
+    levels: &mut [u8],
+    variable_messages: &mut [u8],
+    check_messages: &mut [u8],
+    sums: &mut [u8],
+    bits: &mut [u8],
+)
+    requires { ⌜ Ready s (graphOf n (now starts) (now columns)) (now values) ⌝ }
+    requires { ⌜ exact (graphOf n (now starts) (now columns)) (roomOf (memory (now levels) (now «variable_messages») (now «check_messages») (now sums) (now bits))) ⌝ }
+    ensures { λ _. ⌜ BeginsFrom s (graphOf n (now (starts .entry)) (now (columns .entry))) (now (values .entry)) (now (levels .exit)) (now («variable_messages» .exit)) (now («check_messages» .exit)) (now (sums .exit)) (now (bits .exit)) ⌝ }
+{
+    let channel_most = channel::largest(s.channel);
+    let message_most = channel::largest(s.message);
+    running::step::begin(
+        values,
+        s.factor,
+        channel_most,
+        message_most,
+        columns,
+        levels,
+        variable_messages,
+        check_messages,
+        sums,
+        bits,
+    );
+}
+
+// How many checks are odd where a run of this limit stopped at iteration t: below the limit it stopped at a codeword.
+fn odd_at(t: usize, limit: usize, n: usize, starts: &[u8], columns: &[u8], bits: &[u8]) -> usize
+    requires { ⌜ Admitted (graphOf n (now starts) (now columns)) × (n ≤ length (now bits)) ⌝ }
+    requires { ⌜ (t < limit → unsatisfied (graphOf n (now starts) (now columns)) (bitOfByte (now bits)) ≡ 0) ⌝ }
+    ensures { λ r. ⌜ r ≡ unsatisfied (graphOf n (now (starts .entry)) (now (columns .entry))) (bitOfByte (now (bits .entry))) ⌝ }
+{
+    if t < limit {
+        return 0;
+    }
+    syndrome::odd_checks(n, starts, columns, bits)
+}
+
 // Decodes an accepted frame, in memory of exactly the right lengths.
 fn decode_exactly(
     s: Settings,
@@ -182,21 +201,19 @@ fn decode_exactly(
     requires { ⌜ exact (graphOf n (now starts) (now columns)) (roomOf (memory (now levels) (now «variable_messages») (now «check_messages») (now sums) (now bits))) ⌝ }
     ensures { λ r. ⌜ RunsFrom s (graphOf n (now (starts .entry)) (now (columns .entry))) (now (values .entry)) r (now (levels .exit)) (now («variable_messages» .exit)) (now («check_messages» .exit)) (now (sums .exit)) (now (bits .exit)) ⌝ }
 {
-    let channel_most = channel::largest(s.channel);
-    let message_most = channel::largest(s.message);
-    step::begin(
-        values,
-        s.factor,
-        channel_most,
-        message_most,
+    begin_exactly(
+        s,
+        n,
+        starts,
         columns,
+        values,
         levels,
         variable_messages,
         check_messages,
         sums,
         bits,
     );
-    run(
+    let t = run(
         s,
         n,
         starts,
@@ -207,7 +224,8 @@ fn decode_exactly(
         check_messages,
         sums,
         bits,
-    )
+    );
+    ended(t, odd_at(t, s.limit as usize, n, starts, columns, bits))
 }
 
 // Decodes a frame: the report and the state of the run in the lent memory, or the refusal and the memory as it was; counts the variables'

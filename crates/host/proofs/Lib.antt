@@ -3,3 +3,4 @@ pub mod SheetAnswers
 pub mod Places
 pub mod BlockAnswers
 pub mod EncodeAnswers
+pub mod RunAnswers

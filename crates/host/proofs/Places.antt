@@ -107,6 +107,7 @@ number-small (R.Shift p) = refl
 number-small R.Positions = refl
 number-small R.NoCodeword = refl
 number-small R.Blank = refl
+number-small R.Advance = refl
 
 -- the lowest byte of the answer is the number
 number-packed : (F : Frame) (j : Judged) → packDecoded (decoded F j) % 256 ≡ numberOf j

@@ -14,6 +14,7 @@ use rules::Verdict;
 
 pub mod sheets; // the entries for code sheets
 pub mod encoding; // the entry for the writing side
+pub mod runs; // the entries for a run that pauses
 
 // The scaling of a kind; another kind than 0 and 1 is turned down as a gain of zero is.
 fn scaling_of(kind: u32, gain: f32, variance: f32) -> Scaling

@@ -54,18 +54,16 @@ fn outgoing_message(most: u8, phi_s: u8, phi_a: u8, phi_0: u8, k: usize) -> u8
     }
 }
 
-// The messages of the outgoing sums from -17 to 17: up to an Nq of 7 those beyond send what the ends do.
-pub fn outgoing_messages(most: u8, phi_s: u8, phi_a: u8, phi_0: u8) -> [u8; 35]
-    requires { ⌜ most < 128 ⌝ }
-    ensures { λ r. ⌜ r ≡ tabulate (λ k. byte (outgoing most (offsets «phi_s» «phi_a» «phi_0») (pos k -ℤ pos 17))) 35 ⌝ }
+// Puts the messages of the outgoing sums from -17 to 17 into a list of 35: up to an Nq of 7 those beyond send what the ends do.
+pub fn put_messages(messages: &mut [u8], most: u8, phi_s: u8, phi_a: u8, phi_0: u8)
+    requires { ⌜ (most < 128) × (length (now messages) ≡ 35) ⌝ }
+    ensures { λ _. ⌜ now (messages .exit) ≡ tabulate (λ k. byte (outgoing most (offsets «phi_s» «phi_a» «phi_0») (pos k -ℤ pos 17))) 35 ⌝ }
 {
-    let mut messages = [0u8; 35];
     let mut k: usize = 0;
     while k < 35 {
         messages[k] = outgoing_message(most, phi_s, phi_a, phi_0, k);
         k += 1;
     }
-    messages
 }
 
 // The place of the outgoing sum u in such a list.

@@ -23,7 +23,7 @@ use Rattle.rules.proofs.Lifts.{counted-within, counted-largest}
 -- ---- messages
 
 -- another entry of the row bounds the least
-check-within : (G : Graph) → Admitted G → (N : ℕ) (q : ℕ → Level) → ((k : ℕ) → k < G .entries → q k .magnitude ≤ N)
+pub check-within : (G : Graph) → Admitted G → (N : ℕ) (q : ℕ → Level) → ((k : ℕ) → k < G .entries → q k .magnitude ≤ N)
     → (e : ℕ) → e < G .entries → fromCheck G q e .magnitude ≤ N
 unfolding fromCheck others
 check-within G ok N q h e u = go (ℕ-discrete e a)

@@ -8,18 +8,20 @@ use lib.Dec.{eqb}
 use lib.ListN.{getD}
 use lib.IntN.{ℤ, pos}
 use Rattle.rules.specs.Levels.{Level, plusZero}
-use Rattle.rules.specs.Graphs.{Graph, Admitted, Codeword}
+use Rattle.rules.specs.Graphs.{Graph, Admitted, Codeword, unsatisfied}
 use Rattle.rules.specs.Nodes.{Offsets, Lifting, firstMessage, firstBit, fromCheck, counted, bitOf, outgoingSum, outgoing, fromVariable}
-use Rattle.rules.specs.Sequence.{Scheme, unlifted, countedIn, signPreserving, levelAt, bitAt, begun, sent, iterated, next, state, unsatisfiedIn, stop, final, report}
+use Rattle.rules.specs.Sequence.{Scheme, State, unlifted, countedIn, signPreserving, levelAt, bitAt, begun, sent, iterated, next, state, unsatisfiedIn, stop, final, report}
 use Rattle.rules.specs.declared.Report.{Report}
 use Rattle.rules.specs.declared.Verdict.the-variants.{Codeword as codeword, Stopped as stopped}
-use Rattle.rules.specs.Symmetry.{turned, opposite, Reversed, Mirrored, SameRun, Symmetry}
+use Rattle.rules.specs.Halting.{halted}
+use Rattle.rules.specs.Symmetry.{turned, opposite, Reversed, Mirrored, SameRun, SameHalt, Symmetry}
 use Rattle.rules.proofs.Ranges.{getD-tabulate, first-ext}
 use Rattle.rules.proofs.Signs.{bit-turned, outgoing-turned}
 use Rattle.rules.proofs.Parity.{outgoing-nonzero}
 use Rattle.rules.proofs.Turns.{Reverses, check-mirrored, only-codewords, posterior-turned, outgoingSum-turned, unsatisfied-turned}
 use Rattle.rules.proofs.Lifts.{counted-turned}
 use Rattle.rules.proofs.Simulation.{state-number, Simulates, Mirrors, states-mirror}
+use Rattle.rules.proofs.Halting.{halted-shorter}
 
 module _ (G : Graph) (ok : Admitted G) (Nq : ℕ) (φ : Offsets) (Λ : Lifting) (c : ℕ → Bool) (y y′ : ℕ → Level) (hy : Reversed G c y y′) where
   R : Scheme
@@ -89,6 +91,25 @@ module _ (G : Graph) (ok : Admitted G) (Nq : ℕ) (φ : Offsets) (Λ : Lifting) 
         stops : stop G R′ limit ≡ stop G R limit
         stops = first-ext (λ t. eqb (unsatisfiedIn G R′ t) 0) (λ t. eqb (unsatisfiedIn G R t) 0) (λ t. ap (λ k. eqb k 0) (unsatisfied-same t)) 0 limit
 
+    -- halted at k, the runs are where those of a smaller limit end
+    same-halt : (limit k : ℕ) → SameHalt G c R R′ limit k
+    unfolding final report unsatisfiedIn
+    same-halt limit k = record {
+      iteration = ap (λ (σ : State). σ .iteration) at′ ∙ state-number G R′ (stop G R′ (min k limit)) ∙ ap (λ r. r .iterations) (same .report)
+          ∙ sym (ap (λ (σ : State). σ .iteration) at ∙ state-number G R (stop G R (min k limit)));
+      unsatisfied = ap (λ (σ : State). unsatisfied G (bitAt (σ .bits))) at′ ∙ ap (λ r. r .unsatisfied) (same .report) ∙ sym (ap (λ (σ : State). unsatisfied G (bitAt (σ .bits))) at);
+      bits = λ v u. ap (λ (σ : State). bitAt (σ .bits) v) at′ ∙ same .bits v u ∙ ap (λ (σ : State). xor (c v) (bitAt (σ .bits) v)) (sym at);
+    }
+      where
+        same : SameRun G c R R′ (min k limit)
+        same = same-run (min k limit)
+
+        at : halted G R limit k ≡ final G R (min k limit)
+        at = halted-shorter G R limit k
+
+        at′ : halted G R′ limit k ≡ final G R′ (min k limit)
+        at′ = halted-shorter G R′ limit k
+
   -- the check messages of iteration 1 tell whether c is a codeword
   only : ((t : ℕ) → Mirrored G c R R′ t) → Codeword G c
   unfolding R R′ signPreserving unlifted state begun next iterated
@@ -108,6 +129,7 @@ unfolding R R′
 symmetry G ok Nq φ Λ c y y′ hy = record {
   exactly = (mirrored G ok Nq φ Λ c y y′ hy, only G ok Nq φ Λ c y y′ hy);
   runs = same-run G ok Nq φ Λ c y y′ hy;
+  halts = same-halt G ok Nq φ Λ c y y′ hy;
   nonzero = (
     (λ t. outgoing-nonzero G y (countedIn Nq Λ t (levelAt (state G (signPreserving G Nq φ Λ y) t .checkMessages)))),
     (λ t. outgoing-nonzero G y′ (countedIn Nq Λ t (levelAt (state G (signPreserving G Nq φ Λ y′) t .checkMessages)))),

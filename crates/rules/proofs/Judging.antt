@@ -1,6 +1,6 @@
 -- Laws of refusals in order: `unless`, `orElse` and `each`, and of the tests in them.
 use mathlib.Core.Path.{_≡_, refl, sym, ap, _∙_}
-use mathlib.Core.Bool.{Bool, true, false, _&&_}
+use mathlib.Core.Bool.{Bool, true, false, _&&_, _||_}
 use mathlib.Core.Logic.{⊎-elim}
 use Prim.Native.Nat.{ℕ, zero, suc, _+_, _<_}
 use native.Mathlib.Nat.{eq-or-lt-of-le, le-of-suc-le-suc}
@@ -127,3 +127,7 @@ and-both {a} {b} p q = rw (p, q)
 pub and-no : (a : Bool) → a && false ≡ false
 and-no true = refl
 and-no false = refl
+
+pub or-yes : (a : Bool) → a || true ≡ true
+or-yes true = refl
+or-yes false = refl

@@ -10,7 +10,7 @@ use Rattle.rules.specs.Ranges.{fold, but, tabulate}
 use Rattle.rules.specs.Levels.{Level, plusZero}
 use Rattle.rules.specs.Graphs.{Graph, Admitted, variableDegree, unsatisfied}
 use Rattle.rules.specs.Nodes.{Offsets, Lifting, firstMessage, firstBit, fromCheck, contribution, extra, channelPart, share, posterior, bitOf, outgoingSum, outgoing, fromVariable}
-use Rattle.rules.specs.Sequence.{Scheme, unlifted, countedIn, signPreserving, levelAt, bitAt, begun, sentIn, sent, iterated, next, state, unsatisfiedIn, stop, final, report}
+use Rattle.rules.specs.Sequence.{Scheme, State, unlifted, countedIn, signPreserving, levelAt, bitAt, begun, sentIn, sent, iterated, next, state, unsatisfiedIn, stop, final, report}
 use Rattle.rules.specs.declared.Report.{Report}
 use Rattle.rules.specs.declared.Verdict.the-variants.{Codeword, Stopped}
 use Rattle.rules.proofs.Ranges.{tabulate-ext, first-ext}
@@ -56,16 +56,22 @@ module _ (G : Graph) (ok : Admitted G) (Nq : ℕ) (φ : Offsets) (Λ : Lifting) 
       bits-same = tabulate-ext (λ v. bitOf (getD (S y) v (pos 0)) (y v .minus)) (λ v. bitOf (getD (S y′) v (pos 0)) (y′ v .minus)) (G .variables)
           (λ v u. ap₂ (λ l m. bitOf (getD l v (pos 0)) (m .minus)) sums-same (h v u))
 
+  -- of any state
+  pub next-same : (σ : State) → next G (signPreserving G Nq φ Λ y) σ ≡ next G (signPreserving G Nq φ Λ y′) σ
+  unfolding R R′ next sent
+  next-same σ = ap (iterated G R (suc (σ .iteration))) (sent-same (σ .iteration) (σ .variableMessages) (σ .checkMessages)) ∙ iterated-same (suc (σ .iteration)) (sent G R′ σ)
+
   state-same : (t : ℕ) → state G R t ≡ state G R′ t
   unfolding R R′ state begun next sent signPreserving unlifted firstMessage firstBit
   state-same zero = ap₂ (λ q b. record { iteration = 0; variableMessages = q; checkMessages = tabulate (λ e. plusZero) (G .entries); sums = tabulate (λ v. pos 0) (G .variables); bits = b })
       (tabulate-ext (firstMessage G Nq y) (firstMessage G Nq y′) (G .entries)
       (λ e u. ap (λ (l : Level). record { minus = l .minus; magnitude = min (l .magnitude) Nq }) (h (G .column e) (ok .within e u))))
       (tabulate-ext (firstBit y) (firstBit y′) (G .variables) (λ v u. ap (λ l. l .minus) (h v u)))
-  state-same (suc t) =
-      ap (next G R) (state-same t)
-      ∙ ap (iterated G R (suc (state G R′ t .iteration))) (sent-same (state G R′ t .iteration) (state G R′ t .variableMessages) (state G R′ t .checkMessages))
-      ∙ iterated-same (suc (state G R′ t .iteration)) (sent G R′ (state G R′ t))
+  state-same (suc t) = ap (next G R) (state-same t) ∙ next-same (state G R′ t)
+
+  pub begun-same : begun G (signPreserving G Nq φ Λ y) ≡ begun G (signPreserving G Nq φ Λ y′)
+  unfolding R R′ state
+  begun-same = state-same 0
 
   unsatisfied-same : (t : ℕ) → unsatisfiedIn G R t ≡ unsatisfiedIn G R′ t
   unfolding unsatisfiedIn

@@ -4,6 +4,7 @@ pub mod Graphs
 pub mod Refusals
 pub mod Nodes
 pub mod Sequence
+pub mod Halting
 pub mod Symmetry
 pub mod Theorems
 pub mod Tables

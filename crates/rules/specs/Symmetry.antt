@@ -1,4 +1,4 @@
--- Demand 3 of document 01: the codeword symmetry, as one claim about all iterations and both runs.
+-- Demand 3 of document 01, with document 02, item 6: the codeword symmetry, as one claim about all iterations and both runs.
 use mathlib.Core.Path.{_≡_}
 use mathlib.Core.Bool.{Bool, true, false, xor}
 use mathlib.Core.List.{List}
@@ -7,9 +7,10 @@ use Prim.Native.Nat.{ℕ, _≤_, _<_}
 use lib.ListN.{getD}
 use lib.IntN.{ℤ, pos, negℤ}
 use Rattle.rules.specs.Levels.{Level}
-use Rattle.rules.specs.Graphs.{Graph, Admitted, Codeword}
+use Rattle.rules.specs.Graphs.{Graph, Admitted, Codeword, unsatisfied}
 use Rattle.rules.specs.Nodes.{Offsets, Lifting, outgoingSum}
 use Rattle.rules.specs.Sequence.{Scheme, countedIn, signPreserving, levelAt, bitAt, sent, state, final, report}
+use Rattle.rules.specs.Halting.{halted}
 
 -- The level with its sign reversed where b, its magnitude kept.
 unfoldable pub turned : Bool → Level → Level
@@ -43,6 +44,12 @@ pub record SameRun (G : Graph) (c : ℕ → Bool) (R R′ : Scheme) (limit : ℕ
   pub report : report G R′ limit ≡ report G R limit
   pub bits : (v : ℕ) → v < G .variables → bitAt (final G R′ limit .bits) v ≡ xor (c v) (bitAt (final G R limit .bits) v)
 
+-- The two runs halted at k are in the same iteration with as many unsatisfied checks, and have bits that differ exactly where c is 1.
+pub record SameHalt (G : Graph) (c : ℕ → Bool) (R R′ : Scheme) (limit k : ℕ) : Type 0 where
+  pub iteration : halted G R′ limit k .iteration ≡ halted G R limit k .iteration
+  pub unsatisfied : unsatisfied G (bitAt (halted G R′ limit k .bits)) ≡ unsatisfied G (bitAt (halted G R limit k .bits))
+  pub bits : (v : ℕ) → v < G .variables → bitAt (halted G R′ limit k .bits) v ≡ xor (c v) (bitAt (halted G R limit k .bits) v)
+
 -- In no iteration is an outgoing variable sum zero, with the check messages as they count there.
 abbrev pub NeverZero : Graph → ℕ → Offsets → Lifting → (ℕ → Level) → Type 0
 NeverZero G Nq φ Λ y =
@@ -51,6 +58,7 @@ NeverZero G Nq φ Λ y =
 pub record Symmetric (G : Graph) (Nq : ℕ) (φ : Offsets) (Λ : Lifting) (c : ℕ → Bool) (y y′ : ℕ → Level) : Type 0 where
   pub exactly : Codeword G c ↔ ((t : ℕ) → Mirrored G c (signPreserving G Nq φ Λ y) (signPreserving G Nq φ Λ y′) t)
   pub runs : Codeword G c → (limit : ℕ) → SameRun G c (signPreserving G Nq φ Λ y) (signPreserving G Nq φ Λ y′) limit
+  pub halts : Codeword G c → (limit k : ℕ) → SameHalt G c (signPreserving G Nq φ Λ y) (signPreserving G Nq φ Λ y′) limit k
   pub nonzero : NeverZero G Nq φ Λ y × NeverZero G Nq φ Λ y′
 
 -- Demand 3, over levels: for every admitted graph, every Nq, offsets and lifting, all channel levels and every c.

@@ -58,6 +58,7 @@ pub enum Refusal {
     Positions,
     NoCodeword,
     Blank,
+    Advance,
 }
 
 // The paper's number of a refusal, and its place.
@@ -116,6 +117,10 @@ impl Refusal {
             },
             Refusal::Blank => Numbered {
                 number: 20,
+                place: 0,
+            },
+            Refusal::Advance => Numbered {
+                number: 21,
                 place: 0,
             },
         }

@@ -1,57 +1,43 @@
-use mathlib.Core.Path.{ap, _∙_}
+use mathlib.Core.Path.{_∙_}
 use native.Mathlib.Omega.{arith}
-use Rattle.rules.specs.Ranges.{tabulate}
-use Rattle.rules.specs.Levels.{byte}
-use Rattle.rules.proofs.Own.{largest-within}
 use Rattle.words.specs.Roles.{graphOf}
-use Rattle.decoder.specs.Steps.{offsetsIn, liftingIn, levelsUnder}
-use Rattle.decoder.proofs.Beginning.{begins-as, begun-length, begun-holds, begun-levels, ready-sized, runs-same}
+use Rattle.decoder.specs.Runs.{levelsUnder}
+use Rattle.decoder.proofs.Beginning.{levels-length, levels-told, ready-sized, none-odd-early, reported, runs-same}
 use borrow.Author.Needs.{needs}
 use Rattle.decoder.proofs.decode_exactly.Statement.{statement}
 use Rattle.decoder.proofs.decode_exactly.Tie as tie
 
-largest-requires : tie.Need-largest-requires
-largest-requires c κs = search needs
-
-largest-requires-2 : tie.Need-largest-requires-2
-largest-requires-2 c κs = search needs
-
-begin-requires : tie.Need-begin-requires
-begin-requires c κs =
-    let s = c .before .before .before .before .before .before .before .before .before .before .before .before .before .before .before .before in
-    let z = s .pre .0 in
-    let a = s .args in (
-      (omega (arith, z .count), omega arith, omega arith),
-      (
-        (
-          z .finite,
-          omega (arith, c .before .before .before .before .before .before .largest .ensures, largest-within (a .s .channel) (z .settings .channel .1)),
-          omega (arith, c .before .before .before .before .before .largest2 .ensures, largest-within (a .s .message) (omega (arith, z .settings .message, z .settings .channel))),
-        ),
-        λ e l. omega (arith, z .admitted .within e l),
-      ),
-    )
+begin-exactly-requires : tie.Need-begin-exactly-requires
+begin-exactly-requires c κs = search needs
 
 run-requires : tie.Need-run-requires
-run-requires c κs =
-    let s = c .before .before .before .before .before .before .before .before .before .before .before .before .before .before .before .before .before .before .before .before .before .before .before .before .before .before .before .before .before .before .before .before in
+run-requires c κs = let s = c .before .before .before .before .before .before .before .before .before .before .before .before .before .before .before .before .before .before .before .before .before .before .before .before .before .before .before .before .before .before in
     let z = s .pre .0 in
     let long = s .pre .1 .1 in
     let a = s .args in
-    let kept = c .before .before .before .before .before .before .before .before .before .before .before .before .before .before .before .begin .kept .1 .1 .1 .1 .1 .1 in
-    let w = begins-as (c .before .before .before .before .before .before .before .before .before .before .before .before .before .before .before .before .before .before .before .before .before .before .largest .ensures) (c .before .before .before .before .before .before .before .before .before .before .before .before .before .before .before .before .before .before .before .before .before .largest2 .ensures) (c .before .before .before .before .before .before .before .before .before .before .before .before .before .before .before .begin .ensures) in
+    let b = c .before .before .before .before .before .before .before .before .before .before .before .before .before .before .before .begin-exactly in
+    let kept = b .kept .1 .1 .1 .1 .1 .1 in
     record {
       settings = z .settings;
       sized = ready-sized (graphOf (a .n) (a .starts .now) (a .columns .now)) (z .admitted) (s .pre .1 .0)
-          (begun-length (a .n) (a .starts .now) (a .columns .now) _ (offsetsIn (a .s)) (liftingIn (a .s)) w (z .count)) (kept .0 ∙ long .1) (kept .1 .0 ∙ long .2) (kept .1 .1 .0 ∙ long .3) (kept .1 .1 .1 .0 ∙ long .4);
-      holds = begun-holds (a .n) (a .starts .now) (a .columns .now) _ (offsetsIn (a .s)) (liftingIn (a .s)) w (z .count) (long .2) (long .3);
+          (levels-length (z .settings) (a .n) (a .values .now) (b .ensures .levels)) (kept .0 ∙ long .1) (kept .1 .0 ∙ long .2) (kept .1 .1 .0 ∙ long .3) (kept .1 .1 .1 .0 ∙ long .4);
+      holds = b .ensures .holds;
     }
 
+cast-odd-at : tie.Need-cast-odd-at
+cast-odd-at c = search needs
+
+odd-at-requires : tie.Need-odd-at-requires
+odd-at-requires c κs = let s = c .before .before .before .before .before .before .before .before .before .before .before .before .before .before .before .before .before .before .before .before .before .before .before .before .before .before .before .before .before .before .before .before .before .before .before .before .before .before .before .before .before in ((s .pre .0 .admitted, omega (arith, s .pre .1 .1, c .before .before .before .before .before .before .before .before .before .before .before .before .before .before .before .before .before .before .before .before .before .before .before .before .before .before .begin-exactly .kept .1 .1 .1 .1 .1 .1 .1 .1 .1 .0, c .before .before .before .before .before .before .before .before .before .before .run .kept .1 .1 .1 .1 .1 .1 .1 .1 .1 .0)), none-odd-early (c .before .before .before .before .before .before .before .before .before .before .run .ensures))
+
+ended-requires : tie.Need-ended-requires
+ended-requires c κs = search needs
+
 same-length : tie.Need-same-length
-same-length c = search needs
+same-length c = c .before .before .before .before .before .before .before .before .before .before .before .before .before .before .before .before .before .before .before .before .before .before .before .before .before .before .before .before .begin-exactly .kept .1 .1 .1 .1 .1 .0
 
 same-length-2 : tie.Need-same-length-2
-same-length-2 c = search needs
+same-length-2 c = c .before .before .before .before .before .before .before .before .before .before .before .before .run .kept .1 .1 .1 .1 .1 .1 .0 ∙ c .before .before .before .before .before .before .before .before .before .before .before .before .before .before .before .before .before .before .before .before .before .before .before .before .before .before .before .before .begin-exactly .kept .1 .1 .1 .1 .1 .1 .0
 
 same-length-3 : tie.Need-same-length-3
 same-length-3 c = search needs
@@ -63,25 +49,24 @@ same-length-5 : tie.Need-same-length-5
 same-length-5 c = search needs
 
 returns : tie.Need-returns
-returns c =
-    let s = c .before .before .before .before .before .before .before .before .before .before .before .before .before .before .before .before .before .before .before .before .before .before .before .before .before .before .before .before .before .before .before .before .before .before .before .before .before .before .before .before .before in
+returns c = let s = c .before .before .before .before .before .before .before .before .before .before .before .before .before .before .before .before .before .before .before .before .before .before .before .before .before .before .before .before .before .before .before .before .before .before .before .before .before .before .before .before .before .before .before in
     let z = s .pre .0 in
     let a = s .args in
-    let w = begins-as (c .before .before .before .before .before .before .before .before .before .before .before .before .before .before .before .before .before .before .before .before .before .before .before .before .before .before .before .before .before .before .before .largest .ensures) (c .before .before .before .before .before .before .before .before .before .before .before .before .before .before .before .before .before .before .before .before .before .before .before .before .before .before .before .before .before .before .largest2 .ensures) (c .before .before .before .before .before .before .before .before .before .before .before .before .before .before .before .before .before .before .before .before .before .before .before .before .begin .ensures) in
-    record {
-      levels = w .levels ∙ ap (tabulate (λ v. byte (levelsUnder (a .s) (a .values .now) v))) (z .count);
-      runs = runs-same (graphOf (a .n) (a .starts .now) (a .columns .now)) (z .admitted) _ _ _ _ (levelsUnder (a .s) (a .values .now))
-          (begun-levels (a .n) (a .starts .now) (a .columns .now) _ (offsetsIn (a .s)) (liftingIn (a .s)) w (z .count) (omega (arith, largest-within (a .s .channel) (z .settings .channel .1)))) (c .before .before .before .before .before .before .before .before .run .ensures);
-    }
+    let b = c .before .before .before .before .before .before .before .before .before .before .before .before .before .before .before .before .before .before .before .before .before .before .before .before .before .before .before .before .begin-exactly .ensures in
+    let r = c .before .before .before .before .before .before .before .before .before .before .before .before .run .ensures in
+    let same = runs-same (graphOf (a .n) (a .starts .now) (a .columns .now)) (z .admitted) _ _ _ _ (levelsUnder (a .s) (a .values .now)) (levels-told (z .settings) (a .n) (a .values .now) (b .levels)) (a .s .limit)
+    (reported _ _ _ r (c .before .odd-at .ensures) (c .ended .ensures)) (r .holds) in
+    record { levels = b .levels; report = same .0; holds = same .1 }
 
 pub decode-exactly-spec : {M : Type 1} → statement M
 decode-exactly-spec =
     tie.close
     (tie.spec
-    largest-requires
-    largest-requires-2
-    begin-requires
+    begin-exactly-requires
     run-requires
+    cast-odd-at
+    odd-at-requires
+    ended-requires
     same-length
     same-length-2
     same-length-3

@@ -62,6 +62,9 @@ enum-told-8 c = search needs
 enum-told-9 : tie.Need-enum-told-9
 enum-told-9 c = search needs
 
+enum-told-10 : tie.Need-enum-told-10
+enum-told-10 c = search needs
+
 returns : tie.Need-returns
 returns c = rw (c .before .self .given .1)
 
@@ -122,6 +125,9 @@ returns-19 c = rw (c .enum-told8 .given .1)
 returns-20 : tie.Need-returns-20
 returns-20 c = rw (c .enum-told9 .given .1)
 
+returns-21 : tie.Need-returns-21
+returns-21 c = rw (c .enum-told10 .given .1)
+
 pub numbered-spec : {M : Type 1} → statement M
 numbered-spec =
     tie.close
@@ -146,6 +152,7 @@ numbered-spec =
     enum-told-7
     enum-told-8
     enum-told-9
+    enum-told-10
     returns
     returns-2
     returns-3
@@ -165,4 +172,5 @@ numbered-spec =
     returns-17
     returns-18
     returns-19
-    returns-20)
+    returns-20
+    returns-21)

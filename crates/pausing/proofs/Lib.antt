@@ -1,0 +1,3 @@
+pub mod Pausing
+pub mod Lending
+pub mod Twinning

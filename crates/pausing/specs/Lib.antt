@@ -1,0 +1,4 @@
+pub mod Records
+pub mod Pausing
+pub mod Exact
+pub mod Theorems
