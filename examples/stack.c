@@ -13,6 +13,8 @@ enum { VARIABLES = 1000000, CHECKS = 1000000, ENTRIES = 4000000, LIMIT = 3, STAC
 
 static uint8_t starts[4 * (CHECKS + 1)], columns[4 * ENTRIES], values[4 * VARIABLES], text[48 + 14 * ENTRIES], degrees[4 * VARIABLES];
 static uint8_t levels[VARIABLES], variable_messages[ENTRIES], check_messages[ENTRIES], sums[4 * VARIABLES], bits[VARIABLES];
+static uint8_t second_levels[VARIABLES], second_variable_messages[ENTRIES], second_check_messages[ENTRIES], second_sums[4 * VARIABLES],
+    second_bits[VARIABLES], reports[16];
 static uint8_t read_starts[sizeof starts], read_columns[sizeof columns];
 static size_t text_length;
 static uint64_t answer, record;
@@ -119,6 +121,23 @@ static void *advance_place(void *none) {
   return none;
 }
 
+/* The first head stops at its limit, 0; the second goes on past its half, 2, to its limit, 3. */
+static void *decode_pair(void *none) {
+  answer = frame_decode_pair(VARIABLES, starts, sizeof starts, columns, sizeof columns, 4, values, sizeof values, FRAME_PLAIN, 2, 0, 4, 4, 1, 1,
+                             0, 0, 2, 9, values, sizeof values, FRAME_PLAIN, 2, 0, 4, 4, 1, 1, 0, LIMIT, 2, 9, degrees, sizeof degrees,
+                             levels, sizeof levels, variable_messages, sizeof variable_messages, check_messages, sizeof check_messages,
+                             sums, sizeof sums, bits, sizeof bits, second_levels, sizeof second_levels, second_variable_messages,
+                             sizeof second_variable_messages, second_check_messages, sizeof second_check_messages, second_sums,
+                             sizeof second_sums, second_bits, sizeof second_bits, reports, sizeof reports);
+  return none;
+}
+
+static void *decode_pair_place(void *none) {
+  answer = frame_decode_pair_place(VARIABLES, starts, sizeof starts, columns, sizeof columns, values, sizeof values, values, sizeof values,
+                                   524, degrees, sizeof degrees);
+  return none;
+}
+
 static void *write_sheet(void *none) {
   answer = frame_write_sheet(VARIABLES, starts, sizeof starts, columns, sizeof columns, degrees, sizeof degrees, text, sizeof text);
   return none;
@@ -217,6 +236,8 @@ int main(void) {
   measure("frame_advance", advance, FRAME_DECODE_STACK);
   measure("frame_advance, resumed", advance, FRAME_DECODE_STACK);
   measure("frame_advance_place", advance_place, FRAME_DECODE_STACK);
+  measure("frame_decode_pair", decode_pair, FRAME_DECODE_STACK);
+  measure("frame_decode_pair_place", decode_pair_place, FRAME_DECODE_STACK);
   measure("frame_write_sheet", write_sheet, FRAME_WRITE_SHEET_STACK);
   text_length = frame_text_length(answer);
   measure("frame_write_sheet_place", write_sheet_place, FRAME_WRITE_SHEET_STACK);

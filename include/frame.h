@@ -22,8 +22,8 @@ extern "C" {
 #endif
 
 /* How many bytes of stack a call or its companion takes at most, beside its caller's. Measured on x86-64 on a graph of the most variables, checks
-   and entries: decode 1,848, begin 712 and advance 1,656, which FRAME_DECODE_STACK is for too, reading a sheet 520, writing one 544, reading a
-   block sheet 1,064, writing one 216, encode 552. No list of a call grows with the graph: the compiled calls have frames of fixed size, and recurse
+   and entries: decode 1,800, begin 600, advance 1,912 and a pair 2,392, which FRAME_DECODE_STACK is for too, reading a sheet 520, writing one 544,
+   reading a block sheet 1,064, writing one 216, encode 552. No list of a call grows with the graph: the compiled calls have frames of fixed size, and recurse
    only for the seven digits of a count of 1,000,000. Not counted is what a loader takes where it looks up memcpy or memset at their first call,
    some 3,000 bytes; link with -z now to have them looked up beforehand. */
 enum { FRAME_DECODE_STACK = 4096, FRAME_READ_SHEET_STACK = 2048, FRAME_WRITE_SHEET_STACK = 2048, FRAME_READ_BLOCKS_STACK = 2048,
@@ -97,6 +97,67 @@ uint64_t frame_advance(uint64_t record, size_t n, const uint8_t *starts, size_t 
    other refusal has place 0. The list of degrees is left as frame_advance leaves it. */
 size_t frame_advance_place(size_t n, const uint8_t *starts, size_t starts_length, const uint8_t *columns, size_t columns_length,
                            uint8_t *degrees, size_t degrees_length);
+
+/* Two heads on one graph, with one allowance of iterations for both: decodes a frame of each, as frame_decode would, but together in at most
+   `allowance` iterations, T, 2 to 510.
+
+   Let a and b be the iterations that the first and the second head take alone, under their own limits. The first is granted the smaller of a and the larger
+   of T / 2 rounded up and T - b, the second the smaller of b and the larger of T / 2 rounded down and T - a. Each head's grant is its limit: a head cut
+   short is stopped there, and its report and lists are those of frame_decode with that limit. No iteration is done twice.
+
+   Each head has values, numbers and lists of its own, as for frame_decode; there is one list of degrees. `reports`, 16 bytes, are lent for the two
+   reports, the first head's first; frame_report gives each as frame_decode's answer. Bytes past them are as they were.
+
+   One refused head refuses the pair. Refused is what frame_decode refuses of the first head, the graph's refusals included; then of the second; then, with
+   22, an allowance outside 2 to 510; then, with 6, reports shorter than 16 bytes. After a refusal every byte but the degrees' is as it was, of both heads and
+   of the reports. The answer is taken apart by frame_refusal and frame_refused_head; it is 0 where nothing is refused. */
+uint64_t frame_decode_pair(size_t n, const uint8_t *starts, size_t starts_length, const uint8_t *columns, size_t columns_length,
+                           uint32_t allowance, const uint8_t *first_values, size_t first_values_length, uint32_t first_kind,
+                           float first_gain, float first_variance, uint32_t first_channel, uint32_t first_message,
+                           uint32_t first_phi_s, uint32_t first_phi_a, uint32_t first_phi_0, uint32_t first_limit,
+                           uint32_t first_lift_from, uint32_t first_lift_to, const uint8_t *second_values,
+                           size_t second_values_length, uint32_t second_kind, float second_gain, float second_variance,
+                           uint32_t second_channel, uint32_t second_message, uint32_t second_phi_s, uint32_t second_phi_a,
+                           uint32_t second_phi_0, uint32_t second_limit, uint32_t second_lift_from, uint32_t second_lift_to,
+                           uint8_t *degrees, size_t degrees_length, uint8_t *first_levels, size_t first_levels_length,
+                           uint8_t *first_variable_messages, size_t first_variable_messages_length, uint8_t *first_check_messages,
+                           size_t first_check_messages_length, uint8_t *first_sums, size_t first_sums_length, uint8_t *first_bits,
+                           size_t first_bits_length, uint8_t *second_levels, size_t second_levels_length,
+                           uint8_t *second_variable_messages, size_t second_variable_messages_length,
+                           uint8_t *second_check_messages, size_t second_check_messages_length, uint8_t *second_sums,
+                           size_t second_sums_length, uint8_t *second_bits, size_t second_bits_length, uint8_t *reports,
+                           size_t reports_length);
+
+/* The same call with a head by name: what it has read, the numbers of its run, and the memory lent for it, all as for frame_decode. */
+struct frame_head {
+  const uint8_t *values;
+  size_t values_length;
+  uint32_t kind;
+  float gain, variance;
+  uint32_t channel, message, phi_s, phi_a, phi_0, limit, lift_from, lift_to;
+  uint8_t *levels, *variable_messages, *check_messages, *sums, *bits;
+  size_t levels_length, variable_messages_length, check_messages_length, sums_length, bits_length;
+};
+
+static inline uint64_t frame_decode_heads(size_t n, const uint8_t *starts, size_t starts_length, const uint8_t *columns,
+                                          size_t columns_length, uint32_t allowance, const struct frame_head *a,
+                                          const struct frame_head *b, uint8_t *degrees, size_t degrees_length, uint8_t *reports,
+                                          size_t reports_length) {
+  return frame_decode_pair(n, starts, starts_length, columns, columns_length, allowance, a->values, a->values_length, a->kind, a->gain,
+                           a->variance, a->channel, a->message, a->phi_s, a->phi_a, a->phi_0, a->limit, a->lift_from, a->lift_to,
+                           b->values, b->values_length, b->kind, b->gain, b->variance, b->channel, b->message, b->phi_s, b->phi_a,
+                           b->phi_0, b->limit, b->lift_from, b->lift_to, degrees, degrees_length, a->levels, a->levels_length,
+                           a->variable_messages, a->variable_messages_length, a->check_messages, a->check_messages_length, a->sums,
+                           a->sums_length, a->bits, a->bits_length, b->levels, b->levels_length, b->variable_messages,
+                           b->variable_messages_length, b->check_messages, b->check_messages_length, b->sums, b->sums_length, b->bits,
+                           b->bits_length, reports, reports_length);
+}
+
+/* The place of the refusal that frame_decode_pair gave for the same graph, values of both heads and length of `degrees`; `answer` is what it
+   answered. 0 where that is 0. The list of degrees is left as frame_decode_pair leaves it. */
+size_t frame_decode_pair_place(size_t n, const uint8_t *starts, size_t starts_length, const uint8_t *columns, size_t columns_length,
+                               const uint8_t *first_values, size_t first_values_length, const uint8_t *second_values,
+                               size_t second_values_length, uint64_t answer, uint8_t *degrees, size_t degrees_length);
 
 /* Reads a code sheet, the bytes `text`, into the two lists of its graph.
 
@@ -184,7 +245,8 @@ size_t frame_encode_place(size_t n, const uint8_t *starts, size_t starts_length,
    Of advance, after 6: 21 a record that is finished or at or past its limit, or a number that no begin or advance answers as open; a count above
    the limit; a level beyond the channel precision, or a message of either list beyond the message precision.
    Of encode, where 2 is also n above 2,048 or m above 512: 18 a position not below n or not above its predecessor, or not as many positions as
-   given bits; 15 a given byte not 0 or 1; 19 no codeword holds the given bits. */
+   given bits; 15 a given byte not 0 or 1; 19 no codeword holds the given bits.
+   Of a pair, after what decode refuses of either head: 22 an allowance outside 2 to 510. */
 static inline unsigned frame_refusal(uint64_t answer) { return (unsigned)(answer & 255); }
 
 /* Of decode, begin and advance, where nothing is refused: whether the bits are a codeword, the number of the iteration where the run stopped or
@@ -195,6 +257,17 @@ static inline int frame_is_open(uint64_t answer) { return (answer >> 8 & 255) ==
 static inline int frame_is_codeword(uint64_t answer) { return (answer >> 8 & 255) == 0; }
 static inline unsigned frame_iterations(uint64_t answer) { return (unsigned)(answer >> 16 & 65535); }
 static inline unsigned frame_unsatisfied(uint64_t answer) { return (unsigned)(answer >> 32); }
+
+/* Of a pair: the head whose refusal it is, 1 or 2, and 0 for a refusal of neither, which is 22 or the 6 of `reports`, or where nothing is refused.
+   Then the report of a head, 0 or 1, as frame_decode answers it; frame_is_codeword, frame_iterations and frame_unsatisfied take it apart. */
+static inline unsigned frame_refused_head(uint64_t answer) { return (unsigned)(answer >> 8 & 255); }
+static inline uint64_t frame_report(const uint8_t *reports, size_t head) {
+  uint64_t report = 0;
+  for (size_t i = 8; i > 0; i--) {
+    report = report << 8 | reports[8 * head + i - 1];
+  }
+  return report;
+}
 
 /* Of reading, where nothing is refused: n, m, and E, which is the last of the starts that were read. */
 static inline unsigned frame_variables(uint64_t answer) { return (unsigned)(answer >> 8 & 16777215); }

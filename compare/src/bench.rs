@@ -1,8 +1,9 @@
 //! Tables of each decoder's times: decode on large and on small graphs, with lifting off and
-//! on, runs that are advanced one by one, sheets, block sheets, and encode.
+//! on, runs that are advanced one by one, pairs of heads, sheets, block sheets, and encode.
 
 mod encodings;
 mod frames;
+mod pairs;
 mod times;
 
 use crate::generate::{Lists, blocks, graphs, texts};
@@ -11,6 +12,7 @@ use crate::paper::blocks::text_of;
 use crate::random::Random;
 use encodings::{Encodings, MESSAGES, SMALL_MESSAGES};
 use frames::{Batch, FRAMES, SMALL_FRAMES, STRIP_FRAMES};
+use pairs::PairTimes;
 use times::{DecodeTimes, Named, PauseTimes, SHORTEST, Times};
 
 const SEED: u64 = 36;
@@ -36,6 +38,12 @@ const STRIP_ROUNDS: usize = 11;
 /// where runs are short.
 const LIFT_FROM: u32 = 3;
 const SMALL_LIFT_FROM: u32 = 1;
+
+/// Of pairs: enough for both frames, a part for each of two that do not decode, and the same where
+/// one leaves some of its half to the other.
+const WHOLE_ALLOWANCE: u32 = 510;
+const ALLOWANCE: u32 = 50;
+const STRIP_ALLOWANCE: u32 = 24;
 
 pub fn run(decoders: &[Named]) {
     let largest = large_graphs(decoders);
@@ -63,6 +71,11 @@ fn large_graphs(decoders: &[Named]) -> Option<Lists> {
     batches.iter().for_each(|batch| decode_row(decoders, &batch.lifted(LIFT_FROM), ROUNDS));
     pause_heading(decoders);
     batches[..ENDINGS].iter().for_each(|batch| pause_row(decoders, batch, ROUNDS));
+    let [decoded, stopped] = [&batches[0], &batches[1]];
+    pair_heading(decoders);
+    pair_row(decoders, "decoded", [decoded, decoded], WHOLE_ALLOWANCE, ROUNDS);
+    pair_row(decoders, "stopped", [stopped, stopped], ALLOWANCE, ROUNDS);
+    pair_row(decoders, "goes on", [decoded, stopped], ALLOWANCE, ROUNDS);
     batches.into_iter().next_back().map(|batch| batch.lists)
 }
 
@@ -80,6 +93,9 @@ fn strip(decoders: &[Named]) -> Lists {
     pause_heading(decoders);
     pause_row(decoders, &decoded, STRIP_ROUNDS);
     pause_row(decoders, &stopped, STRIP_ROUNDS);
+    pair_heading(decoders);
+    let stopped = stopped.limited(decoded.settings.limit);
+    pair_row(decoders, "goes on", [&decoded, &stopped], STRIP_ALLOWANCE, STRIP_ROUNDS);
     stopped.lists
 }
 
@@ -100,6 +116,25 @@ fn pause_row(decoders: &[Named], batch: &Batch, rounds: usize) {
         line += &format!("{median:>11.2}{least:>11.2}{:>11.2}", median / decode.median);
     }
     println!("{line}{}", ratio(&one_by_one));
+}
+
+fn pair_heading(decoders: &[Named]) {
+    println!(
+        "pairs of these frames that decode, are stopped, or of which the second goes on past its"
+    );
+    println!("half, with an allowance for both; the time over that of two decodes of the grants:");
+    heading(&["n", "allowance", "pairs", "iterations"], decoders, &["of two"]);
+}
+
+fn pair_row(decoders: &[Named], pairs: &str, batches: [&Batch; 2], allowance: u32, rounds: usize) {
+    let PairTimes { iterations, by_decodes, by_pair } =
+        pairs::paired(decoders, batches, allowance, rounds);
+    let n = batches[0].lists.n;
+    let mut line = format!("{n:>11}{allowance:>11}{pairs:>11}{iterations:>11.1}");
+    for (decodes, Times { median, least }) in by_decodes.iter().zip(&by_pair) {
+        line += &format!("{median:>11.2}{least:>11.2}{:>11.2}", median / decodes.median);
+    }
+    println!("{line}{}", ratio(&by_pair));
 }
 
 /// Each graph has a generator of its own, so that no frame depends on other rows.

@@ -5,13 +5,14 @@ pub mod blocks;
 pub mod decode;
 pub mod encode;
 pub mod graph;
+pub mod pair;
 pub mod pause;
 pub mod sheet;
 mod tables;
 
 use crate::interface::{
     AdvanceInput, Answer, BlocksBytes, DecodeInput, Decoded, Decoder, EncodeInput, GraphBytes,
-    Lent, NUMBER_BYTES, Record, Refusal, SheetCounts,
+    Lent, NUMBER_BYTES, PairInput, Record, Refusal, SheetCounts,
 };
 
 pub struct Fast;
@@ -73,6 +74,38 @@ impl Decoder for Fast {
     fn advance_place(&self, graph: &GraphBytes, degrees: &mut [u8]) -> usize {
         let (starts, columns) = graph::lists(graph);
         place(graph::check(graph.n, starts, columns, degrees))
+    }
+
+    fn decode_pair(
+        &self,
+        input: &PairInput,
+        degrees: &mut [u8],
+        lent: &mut [Lent; 2],
+        reports: &mut [u8],
+    ) -> u64 {
+        let lengths = [lent[0].lengths(), lent[1].lengths()];
+        match pair::prepare(input, degrees, lengths, reports.len()) {
+            Ok(frames) => {
+                pair::run(&frames, input.allowance, lent, reports);
+                0
+            }
+            Err(refusal) => refusal.answer(),
+        }
+    }
+
+    fn decode_pair_place(
+        &self,
+        graph: &GraphBytes,
+        values: [&[u8]; 2],
+        answer: u64,
+        degrees: &mut [u8],
+    ) -> usize {
+        let (number, head) = (answer as u8, (answer >> 8) as usize);
+        let (values, number) = match head {
+            0 => (values[0], 0),
+            head => (values[head - 1], number),
+        };
+        self.decode_place(graph, values, number, degrees)
     }
 
     fn read_sheet(

@@ -10,8 +10,10 @@ mod found;
 mod found_blank;
 mod found_blocks;
 mod found_encode;
+mod found_pair;
 mod found_pause;
 mod lifting;
+mod pair;
 mod pause;
 
 use crate::interface::{DecodeInput, LentLengths, Verdict, as_number, f32_list};

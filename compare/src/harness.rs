@@ -4,6 +4,8 @@ mod arena;
 mod blocks;
 pub mod check;
 mod encode;
+mod heads;
+mod pair;
 mod pause;
 mod programs;
 mod report;
@@ -14,6 +16,8 @@ mod twins;
 use check::check;
 #[cfg(test)]
 pub use encode::is_decoded;
+#[cfg(test)]
+pub use heads::{Promise, is_broken};
 pub use programs::{refusal_number, run_programs};
 pub use series::{Budget, Failure, Series};
 
@@ -21,6 +25,7 @@ use crate::generate::blank_cases::{self, BLANK_STRIPS};
 use crate::generate::block_strips::{self, BLOCK_STRIPS};
 use crate::generate::cases::{self, Case};
 use crate::generate::encode_limits::{self, ENCODE_STRIPS};
+use crate::generate::pair_cases::{self, PAIR_STRIPS};
 use crate::generate::pause_cases::{self, PAUSE_STRIPS};
 use crate::generate::strips::{STRIPS, strip};
 use crate::interface::Decoder;
@@ -33,7 +38,7 @@ use std::time::Instant;
 const INPUTS_BEFORE_LIMITS: u64 = 1_000;
 
 /// Inputs that come before the strips.
-const INPUTS_BEFORE_STRIPS: u64 = 12_000;
+const INPUTS_BEFORE_STRIPS: u64 = 14_000;
 
 /// All inputs of a seed, by number and without end.
 struct Inputs {
@@ -76,11 +81,25 @@ impl Inputs {
             return Some(blank_cases::strip(index));
         }
         index -= BLANK_STRIPS;
-        (index < PAUSE_STRIPS).then(|| pause_cases::strip(self.seed, index))
+        if index < PAUSE_STRIPS {
+            return Some(pause_cases::strip(self.seed, index));
+        }
+        index -= PAUSE_STRIPS;
+        (index < PAIR_STRIPS).then(|| pair_cases::strip(self.seed, index))
     }
 }
 
 pub fn run(decoder: &dyn Decoder, seed: u64, budget: Budget) -> Series {
+    run_on(decoder, seed, budget, |_| true)
+}
+
+/// Of the inputs of a seed those that are wanted; the others are only counted.
+pub fn run_on(
+    decoder: &dyn Decoder,
+    seed: u64,
+    budget: Budget,
+    wanted: impl Fn(&Case) -> bool,
+) -> Series {
     let begun = Instant::now();
     let inputs = Inputs::of(seed);
     let mut series = Series::default();
@@ -88,6 +107,9 @@ pub fn run(decoder: &dyn Decoder, seed: u64, budget: Budget) -> Series {
         let input = series.inputs;
         series.inputs += 1;
         let case = inputs.input(input);
+        if !wanted(&case) {
+            continue;
+        }
         match check(&case, decoder, input) {
             Ok(seen) => series.note(seen),
             Err(_) => {
@@ -205,6 +227,27 @@ mod tests {
         for (number, expected) in (first..).zip(expected) {
             let seen = check(&inputs.input(number), &Fast, number).unwrap();
             assert_eq!((seen.call, seen.refusal), expected, "input {number}");
+        }
+    }
+
+    /// And of pairs: one that is accepted, of which one head comes to a codeword and the other goes
+    /// on past its half; an infinity and a short list at the far end of the second head.
+    #[test]
+    fn pair_strips_are_what_they_are_for() {
+        let blank = STRIPS + BLOCK_STRIPS + ENCODE_STRIPS + BLANK_STRIPS;
+        let first = INPUTS_BEFORE_STRIPS + (blank + PAUSE_STRIPS) as u64;
+        let inputs = Inputs::of(3);
+        let expected = [("pair", 0), ("pair, second head", 12), ("pair, second head", 6)];
+        assert_eq!(expected.len(), PAIR_STRIPS);
+        for (number, expected) in (first..).zip(expected) {
+            let case = inputs.input(number);
+            let seen = check(&case, &Fast, number).unwrap();
+            assert_eq!((seen.call, seen.refusal), expected, "input {number}");
+            if let (Case::Pair(case), 0) = (case, seen.refusal) {
+                let outcomes = case.outcome(&mut vec![0; case.first.n]).unwrap();
+                let iterations = outcomes.map(|outcome| outcome.iterations);
+                assert_eq!(iterations, [1, 3]);
+            }
         }
     }
 }

@@ -3,6 +3,12 @@
 //! Lists are byte slices, lowest byte first. A list's count is its length divided by the
 //! width, rounded down; bytes past the last whole element are never read or written.
 
+mod bytes;
+mod pair;
+
+pub use bytes::*;
+pub use pair::*;
+
 /// The bytes of a start, a column or a degree.
 pub const NUMBER_BYTES: usize = 4;
 
@@ -231,7 +237,7 @@ impl LentLengths {
 
 /// The host's calls, each lent a list of degrees. Every `_place` is the companion that tells
 /// where a refusal is, and 0 where nothing is refused; decode's and begin's are asked with the
-/// number of the refusal. It leaves the list of degrees as its call does.
+/// number of the refusal, a pair's with the answer. It leaves the list of degrees as its call does.
 pub trait Decoder {
     fn decode(&self, input: &DecodeInput, degrees: &mut [u8], lent: &mut Lent) -> Answer<Decoded>;
     fn decode_place(
@@ -253,6 +259,22 @@ pub trait Decoder {
 
     fn advance(&self, input: &AdvanceInput, degrees: &mut [u8], lent: &mut Lent) -> Answer<Record>;
     fn advance_place(&self, graph: &GraphBytes, degrees: &mut [u8]) -> usize;
+
+    /// The answer is 0 or that of a refusal; the reports are stored.
+    fn decode_pair(
+        &self,
+        input: &PairInput,
+        degrees: &mut [u8],
+        lent: &mut [Lent; 2],
+        reports: &mut [u8],
+    ) -> u64;
+    fn decode_pair_place(
+        &self,
+        graph: &GraphBytes,
+        values: [&[u8]; 2],
+        answer: u64,
+        degrees: &mut [u8],
+    ) -> usize;
 
     fn read_sheet(
         &self,
@@ -306,58 +328,9 @@ pub trait Decoder {
     fn encode_place(&self, input: &EncodeInput, degrees: &mut [u8]) -> usize;
 }
 
-/// What 32 bits leave of a count.
-pub fn as_number(count: usize) -> u32 {
-    count as u32
-}
-
-/// The starts, columns or degrees in these bytes.
-pub fn numbers(bytes: &[u8]) -> Vec<u32> {
-    bytes.as_chunks::<NUMBER_BYTES>().0.iter().map(|&number| u32::from_le_bytes(number)).collect()
-}
-
-/// The bytes of starts, columns or degrees.
-pub fn number_bytes(list: &[u32]) -> Vec<u8> {
-    list.iter().flat_map(|number| number.to_le_bytes()).collect()
-}
-
-/// The positions in these bytes.
-pub fn positions(bytes: &[u8]) -> Vec<u16> {
-    bytes.as_chunks::<POSITION_BYTES>().0.iter().map(|&at| u16::from_le_bytes(at)).collect()
-}
-
-pub fn position_bytes(list: &[u16]) -> Vec<u8> {
-    list.iter().flat_map(|position| position.to_le_bytes()).collect()
-}
-
-pub fn f32_list(bytes: &[u8]) -> Vec<f32> {
-    let elements = bytes.chunks_exact(4);
-    elements.map(|b| f32::from_le_bytes([b[0], b[1], b[2], b[3]])).collect()
-}
-
-pub fn i32_bytes(list: &[i32]) -> Vec<u8> {
-    list.iter().flat_map(|element| element.to_le_bytes()).collect()
-}
-
-pub fn f32_bytes(list: &[f32]) -> Vec<u8> {
-    list.iter().flat_map(|element| element.to_le_bytes()).collect()
-}
-
 #[cfg(test)]
 mod tests {
     use super::*;
-
-    #[test]
-    fn numbers_and_their_bytes() {
-        let list = [0, 0x0102_0304, u32::MAX];
-        let bytes = number_bytes(&list);
-        assert_eq!(bytes, [0, 0, 0, 0, 4, 3, 2, 1, 255, 255, 255, 255]);
-        assert_eq!(numbers(&bytes), list);
-        // A part of an element counts for nothing.
-        assert_eq!(numbers(&bytes[..bytes.len() - 1]), list[..2]);
-        assert_eq!(as_number(usize::MAX), u32::MAX);
-        assert_eq!(as_number(u32::MAX as usize + 3), 2);
-    }
 
     #[test]
     fn records_and_their_numbers() {
@@ -374,15 +347,6 @@ mod tests {
         for number in [21, open.number() + 1, open.number() + 0x100, 0x8000, 0xff00] {
             assert_eq!(Record::of_number(number), None);
         }
-    }
-
-    #[test]
-    fn positions_and_their_bytes() {
-        let list = [0, 0x0102, u16::MAX];
-        let bytes = position_bytes(&list);
-        assert_eq!(bytes, [0, 0, 2, 1, 255, 255]);
-        assert_eq!(positions(&bytes), list);
-        assert_eq!(positions(&bytes[..bytes.len() - 1]), list[..2]);
     }
 
     #[test]

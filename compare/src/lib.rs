@@ -10,6 +10,7 @@ pub mod inspect;
 pub mod interface;
 #[cfg(frame_library)]
 pub mod library;
+pub mod pair;
 pub mod paper;
 pub mod random;
 pub mod trials;

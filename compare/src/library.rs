@@ -1,13 +1,14 @@
 //! The proved library's C interface and safe wrappers: the only module that knows how slices are
-//! passed and answers packed, but for a run's record, which is given back to the library as it is.
-//! It is built when the archive is linked.
+//! passed and answers packed, but for a run's record and a pair's answer, which are given back to the
+//! library as they are, and for a pair's reports. It is built when the archive is linked.
 
 mod entries;
+mod pairs;
 mod runs;
 
 use crate::interface::{
     AdvanceInput, Answer, BlocksBytes, DecodeInput, Decoded, Decoder, EncodeInput, GraphBytes,
-    Lent, Record, SheetCounts,
+    Lent, PairInput, Record, SheetCounts,
 };
 use entries::*;
 
@@ -48,6 +49,26 @@ impl Decoder for Library {
 
     fn advance_place(&self, graph: &GraphBytes, degrees: &mut [u8]) -> usize {
         runs::advance_place(graph, degrees)
+    }
+
+    fn decode_pair(
+        &self,
+        input: &PairInput,
+        degrees: &mut [u8],
+        lent: &mut [Lent; 2],
+        reports: &mut [u8],
+    ) -> u64 {
+        pairs::decode_pair(input, degrees, lent, reports)
+    }
+
+    fn decode_pair_place(
+        &self,
+        graph: &GraphBytes,
+        values: [&[u8]; 2],
+        answer: u64,
+        degrees: &mut [u8],
+    ) -> usize {
+        pairs::decode_pair_place(graph, values, answer, degrees)
     }
 
     fn read_sheet(

@@ -3,7 +3,7 @@
 use compare::fast::Fast;
 use compare::harness::{self, Budget};
 use compare::interface::Decoder;
-use compare::{bench, inspect, paper, trials};
+use compare::{bench, inspect, pair, paper, trials};
 use std::io::{self, Read, Write};
 use std::process::ExitCode;
 use std::time::Duration;
@@ -17,6 +17,7 @@ const USAGE: &str = "usage:
   compare trials (input | answers)                     what the program `trials` reads, and must print
   compare blocks (input | answers)                     the same of `block_trials`
   compare inspect                                      what `examples/inspect.c` must print
+  compare pair                                         what `examples/pair.c` must print
   compare bench                                        times";
 
 const DEFAULT_INPUTS: u64 = 100_000;
@@ -48,6 +49,7 @@ fn main() -> ExitCode {
         ["blocks", "input"] => print(&trials::blocks::input()),
         ["blocks", "answers"] => print(&trials::blocks::answers()),
         ["inspect"] => print(inspect::text().as_bytes()),
+        ["pair"] => print(pair::text().as_bytes()),
         ["bench"] => times(),
         _ => None,
     };

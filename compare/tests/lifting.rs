@@ -211,13 +211,13 @@ fn never_is_the_same_for_every_w() {
     }
 }
 
-/// Of 3,383 accepted runs 812 never lift; 751 others come out otherwise by lifting, 331 of them
+/// Of 3,369 accepted runs 797 never lift; 783 others come out otherwise by lifting, 346 of them
 /// with other bits.
 #[test]
 fn lifting_shows_often_enough() {
     let [mut accepted, mut never, mut bits] = [0; 3];
     let mut changed = Vec::new();
-    for (case, outcome) in accepted_decodes(15_200) {
+    for (case, outcome) in accepted_decodes(18_200) {
         let plain = case.unlifted().outcome().unwrap();
         accepted += 1;
         never += usize::from(case.settings.lift_from == NEVER);
@@ -243,7 +243,7 @@ fn lifting_shows_often_enough() {
 #[test]
 fn lifting_around_the_stop() {
     let mut shown = [0; 3];
-    for (case, _) in accepted_decodes(5_000) {
+    for (case, _) in accepted_decodes(6_000) {
         let plain = case.unlifted().outcome().unwrap();
         for (before, shown) in shown.iter_mut().enumerate() {
             let lift_from = (plain.iterations + 1).saturating_sub(before) as u32;

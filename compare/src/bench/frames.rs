@@ -43,6 +43,11 @@ pub struct Batch {
 }
 
 impl Batch {
+    /// The same frames under another limit.
+    pub fn limited(self, limit: u32) -> Batch {
+        Batch { settings: Settings { limit, ..self.settings }, ..self }
+    }
+
     /// The same frames with saturated messages lifted from an iteration on, by 2.
     pub fn lifted(&self, lift_from: u32) -> Batch {
         let nq = largest_magnitude(self.settings.message);

@@ -254,7 +254,7 @@ pub fn in_turns(
     turns(decoders, rounds, |(_, decoder), round| measure(*decoder, round))
 }
 
-fn turns<T>(
+pub fn turns<T>(
     subjects: &[T],
     rounds: usize,
     mut measure: impl FnMut(&T, usize) -> f64,

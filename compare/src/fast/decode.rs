@@ -108,14 +108,25 @@ pub fn prepare<'a>(
     lent: &LentLengths,
 ) -> Result<Frame<'a>, Refusal> {
     let (starts, columns) = graph::lists(&input.graph);
-    let n = input.graph.n;
-    let degrees = graph::check(n, starts, columns, degrees)?;
-    let values = input.values.as_chunks().0;
-    if values.len() != n {
+    let degrees = graph::check(input.graph.n, starts, columns, degrees)?;
+    prepare_frame(&input.graph, degrees, input.values, &input.settings, lent)
+}
+
+/// What is refused after the graph's refusals.
+#[inline(always)]
+pub fn prepare_frame<'a>(
+    graph: &GraphBytes<'a>,
+    degrees: &'a [Word],
+    values: &'a [u8],
+    settings: &Settings,
+    lent: &LentLengths,
+) -> Result<Frame<'a>, Refusal> {
+    let values = values.as_chunks().0;
+    if values.len() != graph.n {
         return refuse(13, values.len());
     }
-    let code = Code::new(&input.graph, degrees, &input.settings)?;
-    let Some(factor) = factor(&input.settings) else {
+    let code = Code::new(graph, degrees, settings)?;
+    let Some(factor) = factor(settings) else {
         return refuse(10, 0);
     };
     if !(factor > 0.0 && factor <= f32::MAX) {
@@ -205,6 +216,23 @@ impl State<'_> {
         send_from_checks(code, self.halves, from, to, &mut self.sums);
         for ((bit, &sum), &level) in self.bits.iter_mut().zip(&self.sums).zip(self.levels) {
             *bit = u8::from(sum < 0) | (u8::from(sum == 0) & (level >> 7));
+        }
+    }
+
+    /// Goes to an iteration, or to the verdict where that is earlier. Whether it is open there.
+    pub fn run_to(&mut self, code: &Code, last: usize) -> bool {
+        let last = last.min(code.limit);
+        while self.iteration < last && self.is_no_codeword(code) {
+            self.advance(code);
+        }
+        self.iteration == last && last < code.limit && self.is_no_codeword(code)
+    }
+
+    /// The same from where it is open, if it is not there yet.
+    pub fn go_on_to(&mut self, code: &Code, last: usize) {
+        if self.iteration < last {
+            self.advance(code);
+            self.run_to(code, last);
         }
     }
 

@@ -5,7 +5,7 @@ use crate::generate::Lists;
 use crate::harness::check::level_bytes;
 use crate::interface::{
     AdvanceInput, Answer, BlocksBytes, DecodeInput, Decoded, Decoder, EncodeInput, GraphBytes,
-    Lent, Record, SheetCounts, f32_list, i32_bytes, number_bytes, numbers,
+    Lent, PairInput, Record, SheetCounts, f32_list, i32_bytes, number_bytes, numbers,
 };
 use crate::paper::{self, Limits, Outcome, Refusal, Sheet};
 
@@ -202,6 +202,26 @@ impl Decoder for Faulty {
 
     fn advance_place(&self, graph: &GraphBytes, degrees: &mut [u8]) -> usize {
         self.advance_place_faulty(graph, degrees)
+    }
+
+    fn decode_pair(
+        &self,
+        input: &PairInput,
+        degrees: &mut [u8],
+        lent: &mut [Lent; 2],
+        reports: &mut [u8],
+    ) -> u64 {
+        self.decode_pair_faulty(input, degrees, lent, reports)
+    }
+
+    fn decode_pair_place(
+        &self,
+        graph: &GraphBytes,
+        values: [&[u8]; 2],
+        answer: u64,
+        degrees: &mut [u8],
+    ) -> usize {
+        self.decode_pair_place_faulty(graph, values, answer, degrees)
     }
 
     fn read_sheet(

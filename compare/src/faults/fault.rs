@@ -210,4 +210,67 @@ pub enum Fault {
     DegreesLeftByAdvancePlace,
     AdvancePlaceMissing,
     AdvanceAlwaysWithPlace,
+    // Pairs of heads: what each is granted.
+    HalvesRoundedDown,
+    HalvesRoundedUp,
+    HalvesExchanged,
+    RestOfOwnByFirst,
+    RestOfOwnByBoth,
+    RestOfOthersLimit,
+    RestWrapped,
+    RestLeftOut,
+    RestByVerdictOfOther,
+    RestBySignOfOther,
+    MaxAndMinExchanged,
+    SmallerOfHalfAndRest,
+    WholeAllowanceForEach,
+    // The runs.
+    IterationTwiceAtHalf,
+    IterationMissingAtHalf,
+    LastStepMissingAtHalf,
+    LastStepAtGrant,
+    SecondBySettingsOfFirst,
+    SecondByLimitOfFirst,
+    SecondByValuesOfFirst,
+    // The reports and the lists.
+    CutShortReportsLimit,
+    CutShortReportsCountAlone,
+    CutShortReportsCodeword,
+    CutShortReportsOpen,
+    ReportsExchanged,
+    ListsExchanged,
+    PairBytePast,
+    ReportsPast,
+    // What a pair is refused for.
+    SecondRefusedFirst,
+    TwentyTwoBeforeFirst,
+    TwentyTwoBeforeSecond,
+    TwentyTwoOf0Alone,
+    Allowance511Admitted,
+    Allowance1Admitted,
+    Allowance2Refused,
+    Allowance510Refused,
+    AllowanceOf16Bits,
+    ReportsBeforeTwentyTwo,
+    ReportsBeforeSecond,
+    ReportsOf15Admitted,
+    HeadsExchangedInAnswer,
+    GraphOfNoHead,
+    TwentyTwoOfSecond,
+    // What a refused pair leaves, and its companion.
+    FirstWrittenWhereSecondRefused,
+    FirstWrittenByTwentyTwo,
+    ReportsWrittenWhenRefused,
+    DegreesLeftWhereSecondRefused,
+    DegreesLeftByTwentyTwo,
+    DegreesLeftByPairPlace,
+    PairPlaceOfFirst,
+    PairPlaceOfTwentyTwo,
+}
+
+impl Fault {
+    /// Those of pairs stand last.
+    pub fn is_of_pairs(self) -> bool {
+        self as usize >= Fault::HalvesRoundedDown as usize
+    }
 }

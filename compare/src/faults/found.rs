@@ -10,8 +10,11 @@ use crate::random::Random;
 
 pub const SEED: u64 = 7;
 
+/// What the harness finds. The faults of pairs are in their call alone, and the others are not in
+/// it.
 pub fn found(fault: Fault) -> Failure {
-    let series = harness::run(&Faulty(fault), SEED, Budget::Inputs(20_000));
+    let wanted = |case: &Case| matches!(case, Case::Pair(_)) == fault.is_of_pairs();
+    let series = harness::run_on(&Faulty(fault), SEED, Budget::Inputs(20_000), wanted);
     let failure = series.failure.unwrap_or_else(|| panic!("{fault:?} is not found"));
     println!("{fault:?}: {failure}");
     failure
@@ -26,14 +29,15 @@ pub fn size(failure: &Failure) -> (usize, u32) {
         Case::Encode(case) => (case.columns.len() / NUMBER_BYTES, 0),
         Case::Run(case) => (case.decode.entries(), case.decode.settings.limit),
         Case::Advance(case) => (case.entries(), case.settings.limit),
+        Case::Pair(case) => (case.first.entries(), case.first.settings.limit),
         other => panic!("found in {other:?}"),
     }
 }
 
 #[test]
 fn nothing_without_a_fault() {
-    let series = harness::run(&Faulty(Fault::None), SEED, Budget::Inputs(12_000));
-    assert_eq!(series.inputs, 12_000);
+    let series = harness::run(&Faulty(Fault::None), SEED, Budget::Inputs(14_000));
+    assert_eq!(series.inputs, 14_000);
     assert!(series.failure.is_none());
 }
 
@@ -66,6 +70,15 @@ fn nothing_in_the_fast_decoder() {
     }
     for number in [2, 3, 4, 5, 6, 7, 15, 18, 19] {
         assert!(series.tally.contains_key(&("encode", number)), "encode {number}");
+    }
+    for number in [2, 3, 4, 5, 6, 7, 8, 9, 10, 11, 12, 13, 16, 20] {
+        assert!(series.tally.contains_key(&("pair, first head", number)), "first head {number}");
+    }
+    for number in [6, 8, 9, 10, 11, 12, 13, 16, 20] {
+        assert!(series.tally.contains_key(&("pair, second head", number)), "second head {number}");
+    }
+    for number in [0, 6, 22] {
+        assert!(series.tally.contains_key(&("pair", number)), "pair {number}");
     }
     assert!(series.iterations.contains_key(&255));
 }
@@ -156,7 +169,7 @@ fn faults_of_lifting() {
 #[test]
 fn twins_that_lift_one_sign() {
     let decoder = Faulty(Fault::PlusAloneLifted);
-    let inputs = (0..2_400).map(|input| cases::any(&mut Random::for_input(SEED, input)));
+    let inputs = (0..3_000).map(|input| cases::any(&mut Random::for_input(SEED, input)));
     let twins = inputs.filter(|case| matches!(case, Case::Twin(_)));
     let failures: Vec<String> = twins.filter_map(|case| check(&case, &decoder, 1).err()).collect();
     assert!(failures.len() >= 15, "{} twins fail", failures.len());
@@ -191,7 +204,7 @@ pub fn messages<const COUNT: usize>(faults: [Fault; COUNT]) -> [String; COUNT] {
             Case::Write(case) => case.columns.len() / NUMBER_BYTES,
             Case::WriteBlocks(case) => case.entries.len() / ENTRY_BYTES,
             Case::Decode(_) | Case::Twin(_) | Case::Encode(_) => size(&failure).0,
-            Case::Run(_) | Case::Advance(_) => size(&failure).0,
+            Case::Run(_) | Case::Advance(_) | Case::Pair(_) => size(&failure).0,
         };
         assert!(entries <= 128, "{fault:?}");
         failure.message

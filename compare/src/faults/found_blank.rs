@@ -104,7 +104,7 @@ fn chosen_frames_show_every_fault() {
 /// Twin runs find by themselves that a sign makes or cures a blank, or that a blank leaves a trace.
 #[test]
 fn twins_that_make_or_cure_a_blank() {
-    let inputs = (0..9_600).map(|input| cases::any(&mut Random::for_input(SEED, input)));
+    let inputs = (0..12_000).map(|input| cases::any(&mut Random::for_input(SEED, input)));
     let twins: Vec<Case> = inputs.filter(|case| matches!(case, Case::Twin(_))).collect();
     let said = |fault: Fault| -> Vec<String> {
         twins.iter().filter_map(|case| check(case, &Faulty(fault), 1).err()).collect()

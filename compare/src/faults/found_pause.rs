@@ -193,7 +193,7 @@ fn chosen_inputs_show_faults() {
 /// Twin runs find by themselves that a run that is carried on sends +0 for -0.
 #[test]
 fn twins_that_are_advanced_unlike_each_other() {
-    let inputs = (0..2_400).map(|input| cases::any(&mut Random::for_input(SEED, input)));
+    let inputs = (0..3_000).map(|input| cases::any(&mut Random::for_input(SEED, input)));
     let twins: Vec<Case> = inputs.filter(|case| matches!(case, Case::Twin(_))).collect();
     let said = |fault: Fault| -> Vec<String> {
         twins.iter().filter_map(|case| check(case, &Faulty(fault), 1).err()).collect()

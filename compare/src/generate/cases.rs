@@ -2,11 +2,12 @@
 
 use super::codewords::Codewords;
 use super::encoding::{self, EncodeCase};
+use super::pair::{self, PairCase};
 use super::pause::{self, AdvanceCase, RunCase};
 use super::{
     Lists, advance_cases, advance_orders, blank, blank_cases, blank_orders, block_limits,
     block_orders, blocks, damage, encode_limits, encode_orders, graphs, lifting, limits, orders,
-    pause_cases, refusals, settings, texts,
+    pair_cases, pair_orders, pause_cases, refusals, settings, texts,
 };
 use crate::interface::{
     LentLengths, NEVER, NUMBER_BYTES, Settings, f32_bytes, f32_list, number_bytes, numbers,
@@ -112,13 +113,15 @@ pub enum Case {
     Encode(EncodeCase),
     Run(RunCase),
     Advance(AdvanceCase),
+    Pair(PairCase),
 }
 
 /// The inputs at the program's limits and one past them, every order of refusals around the
 /// list of degrees and of decode's others, every admitted W, block sheets and the writing side by
 /// every pair of refusals and around every limit, blank frames at every precision and scaling
-/// and in every order, and runs that are paused, with every split and every pair of refusals; they
-/// are in every series.
+/// and in every order, runs that are paused, with every split and every pair of refusals, and pairs
+/// of heads with every allowance around what they take and every order of refusals; they are in
+/// every series.
 pub fn at_small_limits(random: &mut Random) -> Vec<Case> {
     let mut cases = orders::cases();
     cases.extend(refusals::cases());
@@ -149,11 +152,13 @@ pub fn at_small_limits(random: &mut Random) -> Vec<Case> {
     cases.extend(pause_cases::cases());
     cases.extend(advance_cases::cases());
     cases.extend(advance_orders::cases());
+    cases.extend(pair_cases::cases());
+    cases.extend(pair_orders::cases());
     cases
 }
 
-/// The writing side and paused runs are chosen beside the other calls, whose inputs stay what they
-/// were without them.
+/// The writing side, paused runs and pairs of heads are chosen beside the other calls, whose inputs
+/// stay what they were without them.
 pub fn any(random: &mut Random) -> Case {
     let chosen = &mut random.clone();
     if chosen.one_in(13) {
@@ -162,6 +167,7 @@ pub fn any(random: &mut Random) -> Case {
     match chosen.below(24) {
         0 | 1 => return Case::Run(pause::any_run(random)),
         2..=4 => return Case::Advance(pause::any_advance(random)),
+        5..=7 => return Case::Pair(pair::any_pair(random)),
         _ => {}
     }
     match random.below(24) {

@@ -79,6 +79,7 @@ fn damaged(random: &mut Random, number: usize) -> Case {
             Case::Encode(case) => case.degrees -= 1,
             Case::Run(case) => case.decode.degrees -= 1,
             Case::Advance(case) => case.degrees -= 1,
+            Case::Pair(case) => case.first.degrees -= 1,
         }
     }
     case

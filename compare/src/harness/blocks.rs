@@ -1,7 +1,7 @@
 //! Block sheets written, and what the calls say of each other's answers.
 
 use super::arena::{Arena, Part};
-use super::check::{Pair, compare_answers, number_of};
+use super::check::{Both, compare_answers, number_of};
 use super::series::Seen;
 use crate::generate::cases::WriteBlocksCase;
 use crate::interface::{
@@ -36,19 +36,19 @@ pub fn check_write_blocks(
     let expected = write(Limits::LENT, &blocks, degrees, case.text);
     let length = expected.as_ref().map(Vec::len).map_err(|refusal| *refusal);
     let left = expected.map_or(Vec::new(), |text| vec![("text", text)]);
-    let mut pair = Pair::new(arena, degrees, left);
+    let mut both = Both::new(arena, degrees, left);
 
-    let [text, entries, degrees] = pair.entry.slices();
+    let [text, entries, degrees] = both.entry.slices();
     let answer = decoder.write_blocks(&given(case, entries), degrees, text);
-    let [_, entries, degrees] = pair.companion.slices();
+    let [_, entries, degrees] = both.companion.slices();
     let place = decoder.write_blocks_place(&given(case, entries), degrees, case.text);
 
     compare_answers(&length, &answer, place)?;
-    pair.compare()?;
+    both.compare()?;
     if let Ok(length) = length
         && blocks.size * blocks.entries.len() <= MOST_ENTRIES
     {
-        let [text] = pair.entry.slices();
+        let [text] = both.entry.slices();
         reads_to(&text[..length], &expansion(&blocks), decoder)?;
     }
     Ok(Seen { call: "write blocks", refusal: number_of(&length), iterations: None })

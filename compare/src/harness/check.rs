@@ -3,6 +3,7 @@
 use super::arena::{Arena, Part};
 use super::blocks::{check_write_blocks, read_as_ordinary};
 use super::encode::check_encode;
+use super::pair::check_pair;
 use super::pause::{check_advance, check_run};
 use super::series::Seen;
 use super::twins::check_twin;
@@ -28,23 +29,24 @@ pub fn check(case: &Case, decoder: &dyn Decoder, fill: u64) -> Result<Seen, Stri
         Case::Encode(case) => check_encode(case, decoder, random),
         Case::Run(case) => check_run(case, decoder, random),
         Case::Advance(case) => check_advance(case, decoder, random),
+        Case::Pair(case) => check_pair(case, decoder, random),
     }
 }
 
 /// What a call and its companion are given and lent, each in an allocation of its own, and
 /// what they must leave there.
-pub struct Pair {
+pub struct Both {
     pub entry: Arena,
     pub companion: Arena,
     entry_left: Vec<u8>,
     companion_left: Vec<u8>,
 }
 
-impl Pair {
+impl Both {
     /// Both leave the list of degrees alike; the other lists are the call's.
-    pub fn new(arena: Arena, degrees: &[u32], lists: Vec<(&str, Vec<u8>)>) -> Pair {
+    pub fn new(arena: Arena, degrees: &[u32], lists: Vec<(&str, Vec<u8>)>) -> Both {
         let degrees = vec![("degrees", number_bytes(degrees))];
-        Pair {
+        Both {
             companion_left: arena.with(&degrees),
             entry_left: arena.with(&[degrees, lists].concat()),
             companion: arena.clone(),
@@ -85,14 +87,14 @@ fn check_decode(
     let (settings, lent) = (&case.settings, &case.lent);
     let expected = paper::decode(Limits::LENT, &graph, &values, settings, degrees, lent);
     let left = expected.as_ref().map_or(Vec::new(), lists_of);
-    let mut pair = Pair::new(arena, degrees, left);
+    let mut both = Both::new(arena, degrees, left);
 
-    let answer = decode_in(&mut pair.entry, case, decoder);
+    let answer = decode_in(&mut both.entry, case, decoder);
     let number = match &answer {
         Answer::Refused(number) => *number,
         Answer::Accepted(_) | Answer::Malformed(_) => 0,
     };
-    let [starts, _, columns, _, degrees, _, values] = pair.companion.slices();
+    let [starts, _, columns, _, degrees, _, values] = both.companion.slices();
     let graph = GraphBytes { n: case.n, starts, columns };
     let place = decoder.decode_place(&graph, values, number, degrees);
 
@@ -102,7 +104,7 @@ fn check_decode(
         unsatisfied: outcome.unsatisfied,
     });
     compare_answers(&numbers, &answer, place)?;
-    pair.compare()?;
+    both.compare()?;
     let iterations = numbers.ok().map(|numbers| numbers.iterations);
     Ok(Seen { call: "decode", refusal: number_of(&numbers), iterations })
 }
@@ -161,14 +163,14 @@ fn check_read(
         }
         Err(_) => Vec::new(),
     };
-    let mut pair = Pair::new(arena, degrees, left);
+    let mut both = Both::new(arena, degrees, left);
 
-    let [starts, text, degrees, columns] = pair.entry.slices();
+    let [starts, text, degrees, columns] = both.entry.slices();
     let answer = match kind {
         Kind::Ordinary => decoder.read_sheet(text, degrees, starts, columns),
         Kind::Blocks => decoder.read_blocks(text, degrees, starts, columns),
     };
-    let [_, text, degrees] = pair.companion.slices();
+    let [_, text, degrees] = both.companion.slices();
     let place = match kind {
         Kind::Ordinary => decoder.read_sheet_place(text, degrees, case.starts, case.columns),
         Kind::Blocks => decoder.read_blocks_place(text, degrees, case.starts, case.columns),
@@ -177,7 +179,7 @@ fn check_read(
     let counts = |sheet: &Sheet| SheetCounts { n: sheet.n, m: sheet.starts.len() - 1 };
     let numbers = expected.as_ref().map(counts).map_err(|refusal| *refusal);
     compare_answers(&numbers, &answer, place)?;
-    pair.compare()?;
+    both.compare()?;
     let call = match kind {
         Kind::Ordinary => "read",
         Kind::Blocks => "read blocks",
@@ -208,16 +210,16 @@ fn check_write(
     let expected = paper::write_sheet(Limits::LENT, &graph, degrees, case.text);
     let numbers = expected.as_ref().map(Vec::len).map_err(|refusal| *refusal);
     let left = expected.map_or(Vec::new(), |text| vec![("text", text)]);
-    let mut pair = Pair::new(arena, degrees, left);
+    let mut both = Both::new(arena, degrees, left);
 
-    let [starts, text, columns, degrees] = pair.entry.slices();
+    let [starts, text, columns, degrees] = both.entry.slices();
     let answer = decoder.write_sheet(&GraphBytes { n: case.n, starts, columns }, degrees, text);
-    let [starts, _, columns, degrees] = pair.companion.slices();
+    let [starts, _, columns, degrees] = both.companion.slices();
     let graph = GraphBytes { n: case.n, starts, columns };
     let place = decoder.write_sheet_place(&graph, degrees, case.text);
 
     compare_answers(&numbers, &answer, place)?;
-    pair.compare()?;
+    both.compare()?;
     Ok(Seen { call: "write", refusal: number_of(&numbers), iterations: None })
 }
 

@@ -1,7 +1,7 @@
 //! The writing side, and what decode says of the codewords that it gives.
 
 use super::arena::{Arena, Part};
-use super::check::{Pair, compare_answers, number_of};
+use super::check::{Both, compare_answers, number_of};
 use super::series::Seen;
 use crate::generate::encoding::EncodeCase;
 use crate::generate::settings::{PRECISIONS, plain};
@@ -35,20 +35,20 @@ pub fn check_encode(
     );
     let degrees = &mut numbers(arena.part("degrees"));
     let expected = case.outcome(degrees);
-    let mut pair = Pair::new(arena, degrees, left_by(case, &expected));
+    let mut both = Both::new(arena, degrees, left_by(case, &expected));
 
-    let [starts, codeword, positions, work, columns, degrees, given] = pair.entry.slices();
+    let [starts, codeword, positions, work, columns, degrees, given] = both.entry.slices();
     let input = EncodeInput { graph: GraphBytes { n: case.n, starts, columns }, positions, given };
     let answer = decoder.encode(&input, degrees, codeword, work);
-    let [starts, _, positions, _, columns, degrees, given] = pair.companion.slices();
+    let [starts, _, positions, _, columns, degrees, given] = both.companion.slices();
     let input = EncodeInput { graph: GraphBytes { n: case.n, starts, columns }, positions, given };
     let place = decoder.encode_place(&input, degrees);
 
     let accepted = expected.map(|_| ());
     compare_answers(&accepted, &answer, place)?;
-    pair.compare()?;
+    both.compare()?;
     if accepted.is_ok() {
-        is_decoded(case, &pair.entry.part("codeword")[..case.n], decoder)?;
+        is_decoded(case, &both.entry.part("codeword")[..case.n], decoder)?;
     }
     Ok(Seen { call: "encode", refusal: number_of(&accepted), iterations: None })
 }

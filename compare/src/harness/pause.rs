@@ -1,7 +1,7 @@
 //! Runs that are begun and advanced, and states that are handed in.
 
 use super::arena::{Arena, Part};
-use super::check::{Pair, compare_answers, level_bytes, number_of};
+use super::check::{Both, compare_answers, level_bytes, number_of};
 use super::series::Seen;
 use crate::generate::cases::DecodeCase;
 use crate::generate::pause::{AdvanceCase, RunCase};
@@ -52,24 +52,24 @@ impl Run<'_> {
         let values = f32_list(&case.values);
         let expected = paper::begin(self.graph, &values, &self.settings, degrees, &case.lent);
         let left = expected.as_ref().map_or(Vec::new(), |(_, state)| lists_of(state));
-        let mut pair = Pair::new(self.arena.clone(), degrees, left);
+        let mut both = Both::new(self.arena.clone(), degrees, left);
 
         let begin = |input: &DecodeInput, degrees: &mut [u8], lent: &mut Lent| {
             decoder.begin(input, degrees, lent)
         };
-        let answer = on_frame(&mut pair.entry, n, self.settings, begin);
+        let answer = on_frame(&mut both.entry, n, self.settings, begin);
         let number = match &answer {
             Answer::Refused(number) => *number,
             Answer::Accepted(_) | Answer::Malformed(_) => 0,
         };
-        let [starts, _, columns, _, degrees, _, _, _, values] = pair.companion.slices();
+        let [starts, _, columns, _, degrees, _, _, _, values] = both.companion.slices();
         let place =
             decoder.begin_place(&GraphBytes { n, starts, columns }, values, number, degrees);
 
         let record = expected.as_ref().map(|(record, _)| *record).map_err(|refusal| *refusal);
         compare_answers(&record, &answer, place)?;
-        pair.compare()?;
-        self.arena = pair.entry;
+        both.compare()?;
+        self.arena = both.entry;
         Ok(expected)
     }
 
@@ -93,21 +93,21 @@ impl Run<'_> {
             Ok((_, Some(state))) => lists_of(state),
             Ok((_, None)) | Err(_) => Vec::new(),
         };
-        let mut pair = Pair::new(self.arena.clone(), degrees, left);
+        let mut both = Both::new(self.arena.clone(), degrees, left);
 
         let [starts, levels, columns, variable_messages, degrees, check_messages, sums, bits] =
-            pair.entry.slices();
+            both.entry.slices();
         let input =
             AdvanceInput { record, graph: GraphBytes { n, starts, columns }, settings, count };
         let mut lent = Lent { levels, variable_messages, check_messages, sums, bits };
         let answer = decoder.advance(&input, degrees, &mut lent);
-        let [starts, _, columns, _, degrees] = pair.companion.slices();
+        let [starts, _, columns, _, degrees] = both.companion.slices();
         let place = decoder.advance_place(&GraphBytes { n, starts, columns }, degrees);
 
         let record = expected.map(|(record, _)| record);
         compare_answers(&record, &answer, place)?;
-        pair.compare()?;
-        self.arena = pair.entry;
+        both.compare()?;
+        self.arena = both.entry;
         Ok(record)
     }
 

@@ -3,6 +3,7 @@
 use super::series::{Failure, Series};
 use crate::generate::cases::{Case, DecodeCase, ReadCase, WriteBlocksCase};
 use crate::generate::encoding::EncodeCase;
+use crate::generate::pair::PairCase;
 use crate::generate::pause::AdvanceCase;
 use crate::interface::{Settings, f32_list, numbers, positions};
 use std::fmt::{self, Display, Formatter};
@@ -34,14 +35,19 @@ fn digits(value: &f32) -> String {
 }
 
 fn decode(case: &DecodeCase) -> String {
-    let values: Vec<String> = f32_list(&case.values).iter().map(digits).collect();
-    let s = &case.settings;
     let mut text = graph(case.n, &case.starts, &case.columns);
-    text += &format!("  values ({} bytes) {}\n", case.values.len(), listed(&values));
-    text += &format!("  kind {} gain {} variance {}", s.kind, digits(&s.gain), digits(&s.variance));
-    text += &unscaled(s);
+    text += &frame(case);
     text += &format!("  lent bytes {}, then {}\n", case.degrees, listed(&case.lent.as_array()));
     text
+}
+
+/// Values and settings.
+fn frame(case: &DecodeCase) -> String {
+    let values: Vec<String> = f32_list(&case.values).iter().map(digits).collect();
+    let s = &case.settings;
+    let mut text = format!("  values ({} bytes) {}\n", case.values.len(), listed(&values));
+    text += &format!("  kind {} gain {} variance {}", s.kind, digits(&s.gain), digits(&s.variance));
+    text + &unscaled(s)
 }
 
 /// The settings but for the scaling.
@@ -63,6 +69,17 @@ fn advance(case: &AdvanceCase) -> String {
         text += &format!("  {name} ({} bytes) {}\n", list.len(), listed(list));
     }
     text + &format!("  lent bytes {}, then {} {}\n", case.degrees, case.sums, case.bits)
+}
+
+/// The graph stands with the first head.
+fn pair(case: &PairCase) -> String {
+    let [first, second] = case.heads();
+    let mut text = decode(&first);
+    text += &frame(&second);
+    text += &format!("  lent bytes {}\n", listed(&second.lent.as_array()));
+    text += &format!("  allowance {} reports {}\n", case.allowance, case.reports);
+    let other: Vec<String> = f32_list(&case.other).iter().map(digits).collect();
+    text + &format!("  word {}\n  other values {}\n", listed(&case.word), listed(&other))
 }
 
 fn read(case: &ReadCase) -> String {
@@ -120,6 +137,7 @@ pub fn described(case: &Case) -> String {
             )
         }
         Case::Advance(case) => format!("advance\n{}", advance(case)),
+        Case::Pair(case) => format!("a pair of heads\n{}", pair(case)),
         Case::Write(case) => format!(
             "write a sheet\n{}  lent bytes {}, then {}\n",
             graph(case.n, &case.starts, &case.columns),

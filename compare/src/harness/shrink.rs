@@ -2,7 +2,9 @@
 
 mod blocks;
 mod encode;
+mod pair;
 mod pause;
+mod settings;
 
 use crate::generate::Lists;
 use crate::generate::cases::{Case, DecodeCase, WriteCase};
@@ -10,8 +12,7 @@ use crate::generate::encoding::EncodeCase;
 use crate::generate::graphs::without_idle_variables;
 use crate::generate::pause::AdvanceCase;
 use crate::interface::{
-    LARGEST_LIFT, LentLengths, NEVER, NUMBER_BYTES, Settings, f32_bytes, f32_list, number_bytes,
-    numbers,
+    LentLengths, NUMBER_BYTES, Settings, f32_bytes, f32_list, number_bytes, numbers,
 };
 use crate::paper::Limits;
 use std::ops::Range;
@@ -49,11 +50,14 @@ enum Dimension {
     Blocks(blocks::Dimension),
     Encode(encode::Dimension),
     Pause(pause::Dimension),
+    Pair(pair::Dimension),
     Lines,
     Bytes,
 }
 
-const DIMENSIONS: [Dimension; 20] = [
+const DIMENSIONS: [Dimension; 23] = [
+    Dimension::Pair(pair::Dimension::Numbers),
+    Dimension::Pair(pair::Dimension::Settings),
     Dimension::Pause(pause::Dimension::Counts),
     Dimension::Pause(pause::Dimension::Numbers),
     Dimension::Settings,
@@ -62,6 +66,7 @@ const DIMENSIONS: [Dimension; 20] = [
     Dimension::Starts,
     Dimension::Columns,
     Dimension::Values,
+    Dimension::Pair(pair::Dimension::Values),
     Dimension::Buffers,
     Dimension::Blocks(blocks::Dimension::Rows),
     Dimension::Blocks(blocks::Dimension::Columns),
@@ -140,6 +145,7 @@ fn extent(case: &Case, dimension: Dimension) -> usize {
         Dimension::Lines => lines_of(case).len(),
         Dimension::Bytes => text_of(case).len(),
         Dimension::Settings => plainer_settings(case).len(),
+        Dimension::Pair(dimension) => pair::extent(case, dimension),
         Dimension::Values => values_of(case).len(),
         Dimension::Buffers => 2,
         Dimension::Blocks(dimension) => blocks::extent(case, dimension),
@@ -163,6 +169,7 @@ fn cut(case: &Case, dimension: Dimension, part: Range<usize>) -> Option<Case> {
         Dimension::Blocks(dimension) => blocks::cut(case, dimension, part),
         Dimension::Encode(dimension) => encode::cut(case, dimension, part),
         Dimension::Pause(dimension) => pause::cut(case, dimension, part),
+        Dimension::Pair(dimension) => pair::cut(case, dimension, part),
         Dimension::Starts => {
             let lists = lists_of(case)?;
             let starts = without(&lists.starts, &part);
@@ -199,11 +206,13 @@ fn without<T: Clone>(list: &[T], part: &Range<usize>) -> Vec<T> {
     [&list[..part.start], &list[part.end..]].concat()
 }
 
+/// Of a pair, the first head's.
 fn decode_of(case: &Case) -> Option<&DecodeCase> {
     match case {
         Case::Decode(case) => Some(case),
         Case::Twin(case) => Some(&case.decode),
         Case::Run(case) => Some(&case.decode),
+        Case::Pair(case) => Some(&case.first),
         _ => None,
     }
 }
@@ -214,6 +223,7 @@ fn with_decode(case: &Case, change: impl Fn(&mut DecodeCase)) -> Case {
         Case::Decode(decode) => change(decode),
         Case::Twin(twin) => change(&mut twin.decode),
         Case::Run(run) => change(&mut run.decode),
+        Case::Pair(pair) => change(&mut pair.first),
         _ => {}
     }
     case
@@ -269,6 +279,7 @@ struct Kept {
 /// the list of degrees and decode's buffers as much too long or short as before.
 fn on_lists(case: &Case, lists: &Lists, kept: Option<&Kept>) -> Case {
     let (starts, columns) = (number_bytes(&lists.starts), number_bytes(&lists.columns));
+    let before = decode_of(case).map(needed);
     let mut case = with_decode(case, |decode| {
         let (before, after) = (needed(decode), LentLengths::needed(lists.n, lists.columns.len()));
         let mut lent = decode.lent.as_array();
@@ -298,6 +309,7 @@ fn on_lists(case: &Case, lists: &Lists, kept: Option<&Kept>) -> Case {
             encode::put_on_lists(case, lists, kept.map(|kept| &kept.variables[..]));
         }
         Case::Advance(case) => pause::put_on_lists(case, lists, kept),
+        Case::Pair(case) => pair::put_on_lists(case, before, kept),
         _ => {}
     }
     case
@@ -335,10 +347,15 @@ fn values_of(case: &Case) -> Vec<f32> {
     decode_of(case).map_or(Vec::new(), |decode| f32_list(&decode.values))
 }
 
+fn with_plainer_values(case: &Case, part: Range<usize>) -> Option<Case> {
+    let bytes = plainer_values(values_of(case), part);
+    let changed = decode_of(case)?.values != bytes;
+    changed.then(|| with_decode(case, |decode| decode.values = bytes.clone()))
+}
+
 /// These values as +0.0 or, where that is tried one by one, as 2.0 of their sign, which a factor of
 /// 1 exposes.
-fn with_plainer_values(case: &Case, part: Range<usize>) -> Option<Case> {
-    let mut values = values_of(case);
+fn plainer_values(mut values: Vec<f32>, part: Range<usize>) -> Vec<u8> {
     let single = part.len() == 1;
     for value in &mut values[part] {
         *value = match value.abs() {
@@ -347,9 +364,7 @@ fn with_plainer_values(case: &Case, part: Range<usize>) -> Option<Case> {
             _ => 0.0,
         };
     }
-    let bytes = f32_bytes(&values);
-    let changed = decode_of(case)?.values != bytes;
-    changed.then(|| with_decode(case, |decode| decode.values = bytes.clone()))
+    f32_bytes(&values)
 }
 
 fn with_settings(case: &Case, settings: Settings) -> Case {
@@ -367,28 +382,6 @@ fn settings_of(case: &Case) -> Option<Settings> {
     }
 }
 
-/// Settings that are plainer in one way each. Nothing lifted is plainest, then lifting from
-/// early on, so that the limit may come down.
 fn plainer_settings(case: &Case) -> Vec<Settings> {
-    let Some(s) = settings_of(case) else {
-        return Vec::new();
-    };
-    let lifts_late = (2..NEVER).contains(&s.lift_from);
-    let candidates = [
-        (s.lift_from != NEVER, Settings { lift_from: NEVER, ..s }),
-        (s.lift_to != LARGEST_LIFT, Settings { lift_to: LARGEST_LIFT, ..s }),
-        (s.lift_from > NEVER + 1, Settings { lift_from: NEVER + 1, ..s }),
-        (lifts_late, Settings { lift_from: 1, ..s }),
-        (lifts_late, Settings { lift_from: s.lift_from.saturating_sub(1), ..s }),
-        (s.limit > 0, Settings { limit: s.limit / 2, ..s }),
-        (s.limit > 0, Settings { limit: s.limit.saturating_sub(1), ..s }),
-        (s.kind != 0, Settings { kind: 0, ..s }),
-        (s.gain.to_bits() != 1.0_f32.to_bits(), Settings { gain: 1.0, ..s }),
-        (s.variance.to_bits() != 0, Settings { variance: 0.0, ..s }),
-        ((s.channel, s.message) != (3, 3), Settings { channel: 3, message: 3, ..s }),
-        (s.phi_s != 0, Settings { phi_s: 0, ..s }),
-        (s.phi_a != 0, Settings { phi_a: 0, ..s }),
-        (s.phi_0 != 0, Settings { phi_0: 0, ..s }),
-    ];
-    candidates.into_iter().filter(|candidate| candidate.0).map(|candidate| candidate.1).collect()
+    settings_of(case).map_or(Vec::new(), settings::plainer)
 }

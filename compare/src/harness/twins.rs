@@ -15,18 +15,19 @@ use crate::paper::{Graph, Limits, count_odd_checks};
 const BLANK: u8 = 20;
 
 /// What a run reports and leaves behind.
-struct Run {
-    record: Record,
-    levels: Vec<u8>,
-    variable_messages: Vec<u8>,
-    check_messages: Vec<u8>,
-    sums: Vec<u8>,
-    bits: Vec<u8>,
+#[derive(PartialEq, Eq)]
+pub struct Run {
+    pub record: Record,
+    pub levels: Vec<u8>,
+    pub variable_messages: Vec<u8>,
+    pub check_messages: Vec<u8>,
+    pub sums: Vec<u8>,
+    pub bits: Vec<u8>,
 }
 
 /// The calls that make a run of a frame.
 #[derive(Clone, Copy)]
-enum Call {
+pub enum Call {
     Decode,
     Begin,
 }
@@ -133,12 +134,12 @@ impl Run {
 }
 
 /// The bytes of a buffer before it is lent.
-fn lent_bytes(length: usize) -> Vec<u8> {
+pub fn lent_bytes(length: usize) -> Vec<u8> {
     vec![0x55; length]
 }
 
 /// A run, or nothing where the frame is blank.
-fn run(
+pub fn run(
     call: Call,
     case: &DecodeCase,
     values: &[u8],
@@ -181,7 +182,7 @@ fn run(
 }
 
 /// Whether two runs of the same graph and settings mirror each other by the word.
-fn mirrors(run: &Run, twin: &Run, word: &[u8], columns: &[u32]) -> Result<(), String> {
+pub fn mirrors(run: &Run, twin: &Run, word: &[u8], columns: &[u32]) -> Result<(), String> {
     if run.record != twin.record {
         return Err(format!("twin runs give {:?} and {:?}", run.record, twin.record));
     }

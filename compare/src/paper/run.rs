@@ -22,7 +22,7 @@ pub struct Outcome {
 }
 
 impl Outcome {
-    fn new(verdict: Verdict, unsatisfied: usize, state: State) -> Outcome {
+    pub fn new(verdict: Verdict, unsatisfied: usize, state: State) -> Outcome {
         Outcome {
             verdict,
             iterations: state.iteration,
@@ -162,7 +162,7 @@ fn scaling(settings: &Settings) -> Result<Scaling, Refusal> {
 
 /// "The run stops after the bits of the first iteration, 0 included, that are a codeword,
 /// [...] otherwise at the limit."
-fn run(graph: &Graph, levels: Vec<Level>, rules: &Rules) -> Outcome {
+pub fn run(graph: &Graph, levels: Vec<Level>, rules: &Rules) -> Outcome {
     let entries_of_variables = graph.entries_of_variables();
     let mut state = State::first(graph, levels, rules.nq);
     loop {

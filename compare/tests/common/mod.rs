@@ -3,6 +3,7 @@
 
 pub mod blocks;
 pub mod encode;
+pub mod pair;
 pub mod pause;
 
 use compare::interface::{LARGEST_LIFT, LentLengths, NEVER, Settings};

@@ -87,6 +87,10 @@ pub accepts-as : (F : Frame) (m : Room) {r : Judged} {old now : List ℕ} {j : J
     → decodeFinds F (length old) m ≡ j → a ≡ checked j (settings (F .asked)) → Accepts F m a old now
 accepts-as F m k h q = record { answer = q ∙ ap (λ j. checked j (settings (F .asked))) (sym h); degrees = k .degrees }
 
+-- and of `accept_on`
+pub answered : (F : Frame) (m : Room) {j : Judged} {a : Checked} → decodeJudged F Admitted m ≡ j → a ≡ checked j (settings (F .asked)) → a ≡ checked (decodeJudged F Admitted m) (settings (F .asked))
+answered F m h q = q ∙ ap (λ j. checked j (settings (F .asked))) (sym h)
+
 -- on graphs within the old limits nothing else is found than before
 pub as-before : AsBefore
 as-before F d m o = ap (λ g. decodeJudged F g m) (found-before (graph F) d o)
@@ -151,6 +155,10 @@ asked-told F h = (
 
     others : Judged
     others = orElse s v
+
+pub limit-small : (F : Frame) → settingsJudged (F .asked) ≡ Admitted → F .asked .limit ≤ 255
+unfolding settingsOf
+limit-small F h = good-settings (F .asked) (settings (F .asked)) (ap (λ j. checked j (settings (F .asked))) h) .1 .limit
 
 pub memory-told : (F : Frame) (g : Judged) (m : Room) → decodeJudged F g m ≡ Admitted → (frameJudged F g ≡ Admitted) × (enough (F .variables) (graph F .entries) m ≡ true)
 unfolding decodeJudged

@@ -30,7 +30,7 @@ module _ (F : Frame) (bytes : Bytes (F .values)) (c : ℕ → Bool) where
       (ap (λ k. k / 4) (length-reversed c (F .values))) (reversed-judged c (F .values) bytes)
 
   -- the same refusal, or none
-  judged-kept : (g : Judged) → frameJudged (reversedBy c F) g ≡ frameJudged F g
+  pub judged-kept : (g : Judged) → frameJudged (reversedBy c F) g ≡ frameJudged F g
   unfolding frameJudged
   judged-kept g = ap₂ (λ (j : Judged) (b : Bool). orElse g (orElse j (unless (not b) Blank))) asked-kept blank-kept
 

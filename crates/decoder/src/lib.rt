@@ -3,10 +3,12 @@ ghost use mathlib.Core.Path.{_≡_};
 ghost use Prim.Native.Nat.{_≤_, _<_};
 ghost use lib.ListN.{length};
 ghost use Rattle.rules.specs.Graphs.{limits, Admitted, unsatisfied};
+ghost use Rattle.rules.specs.declared.Judged.the-variants as Judgement;
 ghost use Rattle.decoder.specs.Frames.{frame, memory};
 ghost use Rattle.words.specs.Roles.{bitOfByte, graphOf};
+ghost use Rattle.channel.specs.Settings.{settings, checked};
 ghost use Rattle.nodes.specs.Memory.{levelIn};
-ghost use Rattle.decoder.specs.Decoding.{Decodes, Accepts, enough, roomOf};
+ghost use Rattle.decoder.specs.Decoding.{Decodes, Accepts, decodeJudged, enough, roomOf};
 ghost use Rattle.running.specs.Steps.{Degrees, rulesUnder};
 ghost use Rattle.decoder.specs.Runs.{reportAt, exact, Ready, BeginsFrom, Begun, RunsTo, RunsFrom};
 use channel::Checked;
@@ -98,22 +100,18 @@ pub fn long_enough(n: usize, e: usize, room: Room) -> bool
             & ((e <= room.check_messages) & ((4 * n <= room.sums) & (n <= room.bits))))
 }
 
-// The settings of a frame, or why it is turned down where memory of these lengths is lent; counts the variables' degrees in the lent list.
-pub fn accept(
+// The settings of a frame on a graph that is in order, or why it is turned down where memory of these lengths is lent.
+pub fn accept_on(
     n: usize,
     starts: &[u8],
     columns: &[u8],
     values: &[u8],
     asked: Parameters,
-    degrees: &mut [u8],
     room: Room,
 ) -> Checked
-    ensures { λ r. ⌜ Accepts (frame n (now (starts .entry)) (now (columns .entry)) (now (values .entry)) asked) room r (now (degrees .entry)) (now (degrees .exit)) ⌝ }
+    requires { ⌜ n ≤ limits .variables ⌝ }
+    ensures { λ r. ⌜ r ≡ checked (decodeJudged (frame n (now (starts .entry)) (now (columns .entry)) (now (values .entry)) asked) Judgement.Admitted room) (settings asked) ⌝ }
 {
-    let j = graph::check(n, starts, columns, degrees);
-    if let Judged::Refused(r) = j {
-        return Checked::Refused(r);
-    }
     let count = values.len() / 4;
     if count != n {
         return Checked::Refused(Refusal::Length(count));
@@ -135,6 +133,25 @@ pub fn accept(
         return Checked::Refused(Refusal::Buffer);
     }
     c
+}
+
+// The settings of a frame, or why it is turned down where memory of these lengths is lent; counts the variables' degrees in the lent list.
+pub fn accept(
+    n: usize,
+    starts: &[u8],
+    columns: &[u8],
+    values: &[u8],
+    asked: Parameters,
+    degrees: &mut [u8],
+    room: Room,
+) -> Checked
+    ensures { λ r. ⌜ Accepts (frame n (now (starts .entry)) (now (columns .entry)) (now (values .entry)) asked) room r (now (degrees .entry)) (now (degrees .exit)) ⌝ }
+{
+    let j = graph::check(n, starts, columns, degrees);
+    if let Judged::Refused(r) = j {
+        return Checked::Refused(r);
+    }
+    accept_on(n, starts, columns, values, asked, room)
 }
 
 // Iteration 0 of an accepted frame, in memory of exactly the right lengths.

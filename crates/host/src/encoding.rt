@@ -1,22 +1,6 @@
 // The entry for the writing side.
-ghost use mathlib.Core.Path.{_≡_};
 ghost use Rattle.words.specs.Roles.{graphOf};
-ghost use Rattle.host.specs.Packing.{numberOf};
-ghost use Rattle.host.specs.Encoding.{HostEncodes, TellsEncodePlace};
-use rules::Judged;
-
-// The number of what is refused, 0 where nothing is.
-fn number_of(j: Judged) -> u64
-    ensures { λ r. ⌜ r ≡ numberOf j ⌝ }
-{
-    match j {
-        Judged::Admitted => 0,
-        Judged::Refused(r) => {
-            let k = r.numbered();
-            k.number as u64
-        }
-    }
-}
+ghost use Rattle.packing.specs.Encoding.{HostEncodes, TellsEncodePlace};
 
 // Gives the codeword that holds given bits.
 #[no_mangle]
@@ -42,7 +26,7 @@ pub extern "C" fn frame_encode(
         codeword,
         work,
     );
-    number_of(j)
+    packing::encoding::number_of(j)
 }
 
 // The place of what `frame_encode` refuses, 0 where it refuses nothing.
@@ -58,5 +42,5 @@ pub extern "C" fn frame_encode_place(
     ensures { λ r. ⌜ TellsEncodePlace (graphOf n (now (starts .entry)) (now (columns .entry))) (now (positions .entry)) (now (given .entry)) (now (degrees .entry)) (now (degrees .exit)) r ⌝ }
 {
     let j = encoder::judge(n, starts, columns, positions, given, degrees);
-    crate::place_of(j)
+    packing::place_of(j)
 }

@@ -1,74 +1,17 @@
 // The entries that C calls: each a call of the library, on numbers and byte slices.
-ghost use mathlib.Core.Path.{_≡_};
 ghost use lib.ListN.{length};
 ghost use Rattle.words.specs.Roles.{graphOf};
 ghost use Rattle.decoder.specs.Frames.{frame, memory};
-ghost use Rattle.host.specs.Packing.{scalingOf, askedOf, verdictOf, packDecoded, placeOf, decodePlace, HostDecodes, TellsPlace, Small};
+ghost use Rattle.packing.specs.Packing.{scalingOf, askedOf, decodePlace, HostDecodes, TellsPlace};
 use channel::Checked;
 use channel::Parameters;
 use channel::Scaling;
-use decoder::Decoded;
 use decoder::Room;
-use rules::Judged;
-use rules::Verdict;
 
 pub mod sheets; // the entries for code sheets
 pub mod encoding; // the entry for the writing side
 pub mod runs; // the entries for a run that pauses
-
-// The scaling of a kind; another kind than 0 and 1 is turned down as a gain of zero is.
-fn scaling_of(kind: u32, gain: f32, variance: f32) -> Scaling
-    ensures { λ r. ⌜ r ≡ scalingOf kind gain variance ⌝ }
-{
-    if kind == 0 {
-        return Scaling::Plain(gain);
-    }
-    if kind == 1 {
-        return Scaling::Noise(gain, variance);
-    }
-    Scaling::Plain(0.0)
-}
-
-fn verdict_of(v: Verdict) -> u64
-    ensures { λ r. ⌜ r ≡ verdictOf v ⌝ }
-{
-    match v {
-        Verdict::Codeword => 0,
-        Verdict::Stopped => 1,
-    }
-}
-
-// The answer of decode as one number.
-fn pack_decoded(d: Decoded) -> u64
-    requires { ⌜ Small d ⌝ }
-    ensures { λ r. ⌜ r ≡ packDecoded d ⌝ }
-{
-    match d {
-        Decoded::Refused(r) => {
-            let k = r.numbered();
-            k.number as u64
-        }
-        Decoded::Ran(r) => {
-            let v = r.verdict;
-            256 * verdict_of(v)
-                + 65536 * (r.iterations as u64)
-                + 4294967296 * (r.unsatisfied as u64)
-        }
-    }
-}
-
-// The place of what is refused, 0 where nothing is.
-fn place_of(j: Judged) -> usize
-    ensures { λ r. ⌜ r ≡ placeOf j ⌝ }
-{
-    match j {
-        Judged::Admitted => 0,
-        Judged::Refused(r) => {
-            let k = r.numbered();
-            k.place
-        }
-    }
-}
+pub mod pairs; // the entries for two heads
 
 // Decodes a frame. The answer's lowest byte is the refusal's number, 0 where nothing is refused.
 #[no_mangle]
@@ -97,7 +40,7 @@ pub extern "C" fn frame_decode(
 ) -> u64
     ensures { λ r. ⌜ HostDecodes (frame n (now (starts .entry)) (now (columns .entry)) (now (values .entry)) (askedOf (scalingOf kind gain variance) channel message «phi_s» «phi_a» «phi_0» limit «lift_from» «lift_to»)) (memory (now (levels .entry)) (now («variable_messages» .entry)) (now («check_messages» .entry)) (now (sums .entry)) (now (bits .entry))) (memory (now (levels .exit)) (now («variable_messages» .exit)) (now («check_messages» .exit)) (now (sums .exit)) (now (bits .exit))) (now (degrees .entry)) (now (degrees .exit)) r ⌝ }
 {
-    let scaling = scaling_of(kind, gain, variance);
+    let scaling = packing::scaling_of(kind, gain, variance);
     let asked = Parameters {
         scaling,
         channel,
@@ -122,7 +65,7 @@ pub extern "C" fn frame_decode(
         sums,
         bits,
     );
-    pack_decoded(d)
+    packing::pack_decoded(d)
 }
 
 // The place of what `frame_decode` refuses of this graph, with this list of degrees, and these values, where its number is `refusal`; 0 where

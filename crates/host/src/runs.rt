@@ -1,74 +1,15 @@
 // The entries for a run that pauses. The record is the answer itself.
-ghost use mathlib.Core.Path.{_≡_};
 ghost use lib.ListN.{length};
 ghost use Rattle.rules.specs.Graphs.{limits};
 ghost use Rattle.words.specs.Roles.{graphOf};
 ghost use Rattle.graph.specs.Judging.{graphJudgedIn};
 ghost use Rattle.decoder.specs.Frames.{frame, memory};
 ghost use Rattle.pausing.specs.Pausing.{asked};
-ghost use Rattle.host.specs.Packing.{scalingOf, askedOf, placeOf, decodePlace, TellsPlace};
-ghost use Rattle.host.specs.Runs.{standingNumber, packRun, packBegun, unpacked, HostBegins, HostAdvances, unscaledOf, SmallRun, SmallBegun};
+ghost use Rattle.packing.specs.Packing.{scalingOf, askedOf, placeOf, decodePlace, TellsPlace};
+ghost use Rattle.packing.specs.Runs.{HostBegins, HostAdvances, unscaledOf};
 use channel::Parameters;
-use pausing::Begun;
-use pausing::Run;
-use pausing::Standing;
 use pausing::Unscaled;
 use rules::Judged;
-
-fn standing_number(s: Standing) -> u64
-    ensures { λ r. ⌜ r ≡ standingNumber s ⌝ }
-{
-    match s {
-        Standing::Codeword => 0,
-        Standing::Stopped => 1,
-        Standing::Open => 2,
-    }
-}
-
-// A record as one number.
-fn pack_run(run: Run) -> u64
-    requires { ⌜ SmallRun run ⌝ }
-    ensures { λ r. ⌜ r ≡ packRun run ⌝ }
-{
-    let standing = run.standing;
-    256 * standing_number(standing)
-        + 65536 * (run.iterations as u64)
-        + 4294967296 * (run.unsatisfied as u64)
-}
-
-// The answer of begin as one number.
-fn pack_begun(b: Begun) -> u64
-    requires { ⌜ SmallBegun b ⌝ }
-    ensures { λ r. ⌜ r ≡ packBegun b ⌝ }
-{
-    match b {
-        Begun::Refused(r) => {
-            let k = r.numbered();
-            k.number as u64
-        }
-        Begun::At(run) => pack_run(run),
-    }
-}
-
-// The record of a number: a finished one where no begin or advance answers the number as open.
-fn unpack(x: u64) -> Run
-    ensures { λ r. ⌜ r ≡ unpacked x ⌝ }
-{
-    let t = x / 65536 % 65536;
-    let odd = x / 4294967296;
-    if (x % 65536 == 512) & ((t <= 254) & ((1 <= odd) & (odd <= rules::MOST_CHECKS as u64))) {
-        return Run {
-            standing: Standing::Open,
-            iterations: t as usize,
-            unsatisfied: odd as usize,
-        };
-    }
-    Run {
-        standing: Standing::Stopped,
-        iterations: 0,
-        unsatisfied: 0,
-    }
-}
 
 // Begins a run. The answer's lowest byte is the refusal's number, 0 where nothing is refused; then the answer is the record.
 #[no_mangle]
@@ -97,7 +38,7 @@ pub extern "C" fn frame_begin(
 ) -> u64
     ensures { λ r. ⌜ HostBegins (frame n (now (starts .entry)) (now (columns .entry)) (now (values .entry)) (askedOf (scalingOf kind gain variance) channel message «phi_s» «phi_a» «phi_0» limit «lift_from» «lift_to»)) (memory (now (levels .entry)) (now («variable_messages» .entry)) (now («check_messages» .entry)) (now (sums .entry)) (now (bits .entry))) (memory (now (levels .exit)) (now («variable_messages» .exit)) (now («check_messages» .exit)) (now (sums .exit)) (now (bits .exit))) (now (degrees .entry)) (now (degrees .exit)) r ⌝ }
 {
-    let scaling = crate::scaling_of(kind, gain, variance);
+    let scaling = packing::scaling_of(kind, gain, variance);
     let asked = Parameters {
         scaling,
         channel,
@@ -122,7 +63,7 @@ pub extern "C" fn frame_begin(
         sums,
         bits,
     );
-    pack_begun(b)
+    packing::runs::pack_begun(b)
 }
 
 // The place of what `frame_begin` refuses: decode's.
@@ -165,7 +106,7 @@ pub extern "C" fn frame_advance(
 ) -> u64
     ensures { λ r. ⌜ HostAdvances (asked n (now (starts .entry)) (now (columns .entry)) (unscaledOf channel message «phi_s» «phi_a» «phi_0» limit «lift_from» «lift_to») count) «record» (memory (now (levels .entry)) (now («variable_messages» .entry)) (now («check_messages» .entry)) (now (sums .entry)) (now (bits .entry))) (memory (now (levels .entry)) (now («variable_messages» .exit)) (now («check_messages» .exit)) (now (sums .exit)) (now (bits .exit))) (now (degrees .entry)) (now (degrees .exit)) r ⌝ }
 {
-    let run = unpack(record);
+    let run = packing::runs::unpack(record);
     let settings = Unscaled {
         channel,
         message,
@@ -195,7 +136,7 @@ pub extern "C" fn frame_advance(
             let k = r.numbered();
             k.number as u64
         }
-        Judged::Admitted => pack_run(a.run),
+        Judged::Admitted => packing::runs::pack_run(a.run),
     }
 }
 
@@ -210,5 +151,5 @@ pub extern "C" fn frame_advance_place(
     ensures { λ r. ⌜ TellsPlace (graphOf n (now (starts .entry)) (now (columns .entry))) (placeOf (graphJudgedIn limits (graphOf n (now (starts .entry)) (now (columns .entry))) (length (now (degrees .entry))))) (now (degrees .entry)) (now (degrees .exit)) r ⌝ }
 {
     let j = graph::check(n, starts, columns, degrees);
-    crate::place_of(j)
+    packing::place_of(j)
 }

@@ -1,3 +1,4 @@
 pub mod Pausing
+pub mod Carrying
 pub mod Lending
 pub mod Twinning

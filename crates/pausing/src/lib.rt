@@ -18,7 +18,7 @@ use decoder::Room;
 use rules::Judged;
 use rules::Refusal;
 
-mod exact; // the parts of begin and advance
+pub mod exact; // the parts of begin and advance
 
 // How a run stands.
 pub enum Standing {

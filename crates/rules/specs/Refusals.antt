@@ -3,7 +3,7 @@ use mathlib.Core.Bool.{Bool, true, false}
 use Prim.Native.Nat.{ℕ}
 use Rattle.rules.specs.Ranges.{fold}
 use Rattle.rules.specs.declared.Refusal.{Refusal}
-use Rattle.rules.specs.declared.Refusal.the-variants.{Form, Count, Range, Order, Degree, Buffer, Start, Precision, Option, Scaling, Factor, Value, Length, RunText, Bit, Lifting, Shift, Positions, NoCodeword, Blank, Advance}
+use Rattle.rules.specs.declared.Refusal.the-variants.{Form, Count, Range, Order, Degree, Buffer, Start, Precision, Option, Scaling, Factor, Value, Length, RunText, Bit, Lifting, Shift, Positions, NoCodeword, Blank, Advance, Allowance}
 use Rattle.rules.specs.declared.Numbered.{Numbered}
 use Rattle.rules.specs.declared.Judged.{Judged}
 use Rattle.rules.specs.declared.Judged.the-variants.{Admitted, Refused}
@@ -34,6 +34,7 @@ paper Positions = numbered 18 0  -- given positions out of order or range, or no
 paper NoCodeword = numbered 19 0  -- no codeword holds the given bits
 paper Blank = numbered 20 0  -- a blank frame: every channel magnitude is 0
 paper Advance = numbered 21 0  -- a finished record, one at or past its limit, a count above the limit, a level or message beyond its precision
+paper Allowance = numbered 22 0  -- an allowance of two heads outside its bounds
 
 -- The refusal where the test fails.
 abbrev pub unless : Bool → Refusal → Judged

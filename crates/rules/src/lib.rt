@@ -59,6 +59,7 @@ pub enum Refusal {
     NoCodeword,
     Blank,
     Advance,
+    Allowance,
 }
 
 // The paper's number of a refusal, and its place.
@@ -121,6 +122,10 @@ impl Refusal {
             },
             Refusal::Advance => Numbered {
                 number: 21,
+                place: 0,
+            },
+            Refusal::Allowance => Numbered {
+                number: 22,
                 place: 0,
             },
         }

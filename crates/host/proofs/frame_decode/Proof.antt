@@ -4,8 +4,8 @@ use Rattle.channel.specs.declared.Scaling.{Scaling}
 use Rattle.channel.specs.declared.Parameters.{Parameters}
 use Rattle.decoder.specs.Decoding.{Frame, Memory, roomOf, decodeFinds}
 use Rattle.decoder.specs.Frames.{frame, memory}
-use Rattle.host.specs.Packing.{askedOf, Small}
-use Rattle.host.proofs.Smallness.{decoded-small, host-decodes, host-under}
+use Rattle.packing.specs.Packing.{askedOf, Small}
+use Rattle.packing.proofs.Smallness.{decoded-small, host-decodes, host-under}
 use borrow.Author.Needs.{needs}
 use Rattle.host.proofs.frame_decode.Statement.{statement}
 use Rattle.host.proofs.frame_decode.Tie as tie

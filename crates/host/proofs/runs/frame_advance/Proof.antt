@@ -1,8 +1,8 @@
 use mathlib.Core.Path.{sym, ap, _∙_}
 use Rattle.rules.specs.declared.Numbered.{Numbered}
 use Rattle.pausing.specs.Pausing.{Asked, asked}
-use Rattle.host.specs.Runs.{packAdvanced, unscaledOf}
-use Rattle.host.proofs.RunAnswers.{packed-small, host-advances}
+use Rattle.packing.specs.Runs.{packAdvanced, unscaledOf}
+use Rattle.packing.proofs.RunAnswers.{packed-small, host-advances}
 use borrow.Author.Needs.{needs}
 use Rattle.host.proofs.runs.frame_advance.Statement.{statement}
 use Rattle.host.proofs.runs.frame_advance.Tie as tie

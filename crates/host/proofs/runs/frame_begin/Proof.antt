@@ -4,9 +4,9 @@ use Rattle.channel.specs.declared.Scaling.{Scaling}
 use Rattle.channel.specs.declared.Parameters.{Parameters}
 use Rattle.decoder.specs.Decoding.{Frame, Memory}
 use Rattle.decoder.specs.Frames.{frame, memory}
-use Rattle.host.specs.Packing.{askedOf}
-use Rattle.host.specs.Runs.{SmallBegun}
-use Rattle.host.proofs.RunAnswers.{begun-small, host-begins, begins-under}
+use Rattle.packing.specs.Packing.{askedOf}
+use Rattle.packing.specs.Runs.{SmallBegun}
+use Rattle.packing.proofs.RunAnswers.{begun-small, host-begins, begins-under}
 use borrow.Author.Needs.{needs}
 use Rattle.host.proofs.runs.frame_begin.Statement.{statement}
 use Rattle.host.proofs.runs.frame_begin.Tie as tie

@@ -65,6 +65,9 @@ enum-told-9 c = search needs
 enum-told-10 : tie.Need-enum-told-10
 enum-told-10 c = search needs
 
+enum-told-11 : tie.Need-enum-told-11
+enum-told-11 c = search needs
+
 returns : tie.Need-returns
 returns c = rw (c .before .self .given .1)
 
@@ -128,6 +131,9 @@ returns-20 c = rw (c .enum-told9 .given .1)
 returns-21 : tie.Need-returns-21
 returns-21 c = rw (c .enum-told10 .given .1)
 
+returns-22 : tie.Need-returns-22
+returns-22 c = rw (c .enum-told11 .given .1)
+
 pub numbered-spec : {M : Type 1} → statement M
 numbered-spec =
     tie.close
@@ -153,6 +159,7 @@ numbered-spec =
     enum-told-8
     enum-told-9
     enum-told-10
+    enum-told-11
     returns
     returns-2
     returns-3
@@ -173,4 +180,5 @@ numbered-spec =
     returns-18
     returns-19
     returns-20
-    returns-21)
+    returns-21
+    returns-22)

@@ -1,0 +1,4 @@
+pub mod Granting
+pub mod Halts
+pub mod Deciding
+pub mod Promises
