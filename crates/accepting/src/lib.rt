@@ -1,4 +1,6 @@
 // Which frames are accepted.
+#![tactic(auto)]
+
 ghost use Rattle.std.specs.Prelude.{◌≡◌, ◌≤◌, ◌<◌};
 ghost use Rattle.rules.specs.Graphs.{limits, Admitted};
 ghost use Rattle.refusals.specs.declared.Judged.TheVariants as Judgement;

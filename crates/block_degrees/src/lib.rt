@@ -1,4 +1,6 @@
 // 5 on blocks: the degrees of an expansion off those of its block rows and block columns, before anything of it is stored.
+#![tactic(auto)]
+
 ghost use Rattle.std.specs.Prelude.{◌≡◌, ◌*◌, ◌≤◌, ◌<◌, length};
 ghost use Rattle.block_sheets.specs.Text.Scanning.{counts_in};
 ghost use Rattle.block_degrees.specs.Counting.{cleared, column_degrees_judged, Spread, Judgeable, JudgesBlocks};

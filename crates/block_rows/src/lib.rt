@@ -1,4 +1,6 @@
 // The rows of a block sheet that was judged, stored as the starts and columns of their graph.
+#![tactic(auto)]
+
 ghost use Rattle.std.specs.Prelude.{◌≡◌, ℕ, suc, ◌+◌, ◌*◌, ◌^◌, ◌≤◌, ◌<◌, List, length};
 ghost use Rattle.words.proofs.Filling.{Filled};
 ghost use Rattle.words.specs.Roles.{wide};

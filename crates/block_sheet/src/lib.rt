@@ -1,4 +1,6 @@
 // Reads a block sheet into the two lists of its expansion, and the degrees of the variables into a third.
+#![tactic(auto)]
+
 ghost use Rattle.std.specs.Prelude.{◌+◌, ◌*◌, ◌<◌};
 ghost use Rattle.code_sheets.specs.Reader.Storing.{AfterLines, Finished};
 ghost use Rattle.block_sheets.specs.Text.Expansion.{expansion};

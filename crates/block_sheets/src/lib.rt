@@ -1,8 +1,10 @@
 // What the lines of a block sheet give. What they mean is in specs/.
+#![tactic(auto)]
+
 use refusals::Refusal;
 
 // Size, counts of rows and columns, and how many entries.
-#[derive(Drop)]
+#[derive(Clone, Copy)]
 pub struct Counts {
     pub size: usize,
     pub rows: usize,
@@ -18,7 +20,7 @@ pub enum Scanned {
 }
 
 // How many entries a block row has, and the place after their lines.
-#[derive(Drop)]
+#[derive(Clone, Copy)]
 pub struct Row {
     pub degree: usize,
     pub next: usize,

@@ -1,4 +1,6 @@
 // The first pass over a block sheet: its lines, judged from the top. Nothing is stored.
+#![tactic(auto)]
+
 ghost use Rattle.std.specs.Prelude.{◌≡◌, ◌≤◌, ◌<◌, length};
 ghost use Rattle.rules.specs.Graphs.{limits};
 ghost use Rattle.texts.specs.Lines.{pair};

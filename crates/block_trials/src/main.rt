@@ -1,6 +1,8 @@
 // Runs the trials of block sheets on standard input. A trial is a line with the length of its text, then the text. For each it writes the code
 // sheet of the graph that the text gives; and, where all its lines have form and no number of them is too large, the block sheet of their
 // numbers. A refusal stands in place of either.
+#![tactic(auto)]
+
 use code_sheets::{Counts, Sheet, Written};
 use libc::{STDIN_FILENO, STDOUT_FILENO};
 use refusals::Refusal;

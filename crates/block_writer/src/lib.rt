@@ -1,4 +1,6 @@
 // Writes a block sheet: judges size, counts and entries as the reader would their text, then puts the text.
+#![tactic(auto)]
+
 ghost use Rattle.std.specs.Prelude.{◌≡◌, ◌+◌, ◌*◌, ◌/◌, ◌^◌, ◌<◌, ◌≤◌, min, length};
 ghost use Rattle.rules.specs.Graphs.{limits};
 ghost use Rattle.texts.specs.Places.{cap};

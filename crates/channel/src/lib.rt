@@ -1,4 +1,6 @@
 // The check of what is asked of a run, and the factor of its scaling.
+#![tactic(auto)]
+
 ghost use Rattle.std.specs.Prelude.{◌≡◌, ◌<◌, ◌≤◌};
 ghost use Rattle.rules.specs.Levels.{largest};
 ghost use Rattle.settings.specs.Scaling.{positive, factor_of, scaling_admitted};

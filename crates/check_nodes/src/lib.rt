@@ -1,4 +1,6 @@
 // Check nodes: the messages that checks send.
+#![tactic(auto)]
+
 ghost use Rattle.std.specs.Prelude.{◌≡◌, cond, ◌+◌, ◌%◌, ◌<◌, min, max, leb, ltb, length};
 ghost use Rattle.std.specs.Bool.{xor};
 ghost use Rattle.rules.specs.Ranges.{tabulate};
@@ -11,7 +13,7 @@ pub mod first;
 
 // Of the levels so far: the product of signs, the least magnitude, and the least once a level that has it is left out.
 // The magnitudes are widened once: in u32 the comparisons of a row compile to the fewest instructions.
-#[derive(Drop)]
+#[derive(Clone, Copy)]
 pub struct Least {
     pub minus: bool,
     pub least: u32,

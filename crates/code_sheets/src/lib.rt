@@ -1,8 +1,10 @@
 // The answers of a code sheet's reader and writer. What they mean is in specs/.
+#![tactic(auto)]
+
 use refusals::Refusal;
 
 // The counts of a sheet: n, m and E.
-#[derive(Drop)]
+#[derive(Clone, Copy)]
 pub struct Counts {
     pub variables: usize,
     pub checks: usize,
@@ -24,7 +26,7 @@ pub enum Sheet {
 }
 
 // Where the entries' lines are read up to check `check`: the lowest check below it that is refused, else `check`; and its first entry.
-#[derive(Drop)]
+#[derive(Clone, Copy)]
 pub struct Rows {
     pub low: usize,
     pub check: usize,

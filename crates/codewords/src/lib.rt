@@ -1,1 +1,2 @@
 // What encode promises is in specs/.
+#![tactic(auto)]

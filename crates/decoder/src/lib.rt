@@ -1,4 +1,6 @@
 // Decodes one frame.
+#![tactic(auto)]
+
 ghost use Rattle.std.specs.Prelude.{◌≡◌, ◌≤◌, ◌<◌, length};
 ghost use Rattle.rules.specs.Graphs.{Admitted, unsatisfied};
 ghost use Rattle.decoding.specs.Frames.{frame, memory};

@@ -1,10 +1,12 @@
 // The answers of decode and of a pair, and the lengths of lent memory. What they mean is in specs/.
+#![tactic(auto)]
+
 use refusals::Refusal;
 use rules::Report;
 use settings::Settings;
 
 // The lengths of the lent memory, in bytes.
-#[derive(Drop)]
+#[derive(Clone, Copy)]
 pub struct Room {
     pub levels: usize,
     pub variable_messages: usize,
@@ -21,7 +23,7 @@ pub enum Decoded {
 }
 
 // Whose refusal it is: that of the pair, which is neither head's, or a head's.
-#[derive(Drop)]
+#[derive(Clone, Copy)]
 pub enum Party {
     Pair,
     First,

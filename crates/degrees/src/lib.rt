@@ -1,4 +1,6 @@
 // The list of the variables' degrees, in which they are counted: 32-bit numbers in bytes.
+#![tactic(auto)]
+
 ghost use Rattle.std.specs.Prelude.{◌≡◌, ◌++◌, ◌+◌, ◌*◌, ◌/◌, ◌^◌, ◌≤◌, ◌<◌, length, drop};
 ghost use Rattle.rules.specs.Graphs.{limits};
 ghost use Rattle.words.specs.Words.{stored, table};

@@ -1,5 +1,7 @@
 // Parity equations, a row of bits each, and their elimination. In m rows of n variables row i is the n / 8 + 1 bytes from byte (n / 8 + 1) * i
 // on; bit v below n says whether variable v takes part, bit n is the right side.
+#![tactic(auto)]
+
 ghost use Rattle.std.specs.Prelude.{◌≡◌, false, ◌++◌, ℕ, ◌+◌, ◌-◌, ◌*◌, ◌/◌, ◌<◌, ◌≤◌, length, get_or, drop};
 ghost use Rattle.rules.specs.Ranges.{tabulate};
 ghost use Rattle.elimination.specs.Systems.{top, cleared, replaced};

@@ -1,4 +1,6 @@
 // The writing side: the codeword that holds given bits, or the refusal.
+#![tactic(auto)]
+
 ghost use Rattle.std.specs.Prelude.{◌≡◌, ◌&&◌, ◌-◌, ◌/◌, ◌<◌, ◌≤◌, leb, length};
 ghost use Rattle.rules.specs.Graphs.{Graph};
 ghost use Rattle.words.specs.Roles.{wide, position_at, graph_of};

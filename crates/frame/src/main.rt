@@ -1,4 +1,6 @@
 // The program: reads the sheet and the run text, and writes the answer.
+#![tactic(auto)]
+
 mod files;
 
 ghost use Rattle.io.specs.Counts.{IsPrefixLen};

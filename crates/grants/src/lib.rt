@@ -1,4 +1,6 @@
 // One allowance of iterations for two heads: how far each goes, and what it reports where it stops.
+#![tactic(auto)]
+
 ghost use Rattle.std.specs.Prelude.{◌≡◌};
 ghost use Rattle.decoding.specs.Pairing.Grants.{half_up, half_down};
 ghost use Rattle.grants.specs.Counts.{left_of, second_count, first_more, verdict_of, report_of};

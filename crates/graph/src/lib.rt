@@ -1,4 +1,6 @@
 // The check of a graph, the row of a check, and the count of odd checks.
+#![tactic(auto)]
+
 ghost use Rattle.std.specs.Prelude.{◌≡◌, ◌++◌, ℕ, ◌*◌, ◌-◌, ◌/◌, ◌^◌, ◌≤◌, ◌<◌, length, drop};
 ghost use Rattle.rules.specs.Graphs.{limits};
 ghost use Rattle.refusals.specs.declared.Judged.TheVariants as Judgement;

@@ -1,4 +1,6 @@
 // The answer of a count of odd checks. What it means is in specs/.
+#![tactic(auto)]
+
 use refusals::Refusal;
 
 // The number of odd checks of given bits, or the refusal.

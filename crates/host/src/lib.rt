@@ -1,4 +1,6 @@
 // The entries that C calls: each a call of the library, on numbers and byte slices.
+#![tactic(auto)]
+
 ghost use Rattle.std.specs.Prelude.{length};
 ghost use Rattle.words.specs.Roles.{graph_of};
 ghost use Rattle.decoding.specs.Frames.{frame, memory};

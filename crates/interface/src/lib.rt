@@ -1,1 +1,2 @@
 // What the entries for C promise is in specs/.
+#![tactic(auto)]

@@ -1,4 +1,6 @@
 // Decimal numbers, lines of two and of three numbers and fixed texts at a place of a text, read.
+#![tactic(auto)]
+
 ghost use Rattle.std.specs.Prelude.{◌≡◌, ◌+◌, ◌-◌, ◌*◌, ◌<◌, ◌≤◌, min, length, drop};
 ghost use Rattle.texts.specs.Numbers.{number, more, front_digit};
 ghost use Rattle.texts.specs.Lines.{field, line};

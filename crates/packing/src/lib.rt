@@ -1,4 +1,6 @@
 // The answers of the C entries, each packed into one number, and a scaling taken from its numbers.
+#![tactic(auto)]
+
 ghost use Rattle.std.specs.Prelude.{◌≡◌};
 ghost use Rattle.interface.specs.Packing.{scaling_of, verdict_of, pack_decoded, place_of, Small};
 

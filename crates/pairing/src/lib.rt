@@ -1,4 +1,6 @@
 // Two heads that read frames of one graph, with one allowance of iterations for both.
+#![tactic(auto)]
+
 ghost use Rattle.decoding.specs.Frames.{memory};
 ghost use Rattle.decoding.specs.Pairing.Pairs.{heads, AcceptsPair, DecodesPair};
 

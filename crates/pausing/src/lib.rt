@@ -1,4 +1,6 @@
 // A run that pauses: begun, advanced by a number of iterations, looked at and advanced again. Its record and its memory belong to the caller.
+#![tactic(auto)]
+
 ghost use Rattle.std.specs.Prelude.{◌≡◌, ◌≤◌, length};
 ghost use Rattle.rules.specs.Levels.{largest};
 ghost use Rattle.refusals.specs.Refusals.{unless, or_else};
@@ -16,7 +18,7 @@ use settings::{Checked, Parameters, Scaling, Settings};
 pub mod exact; // the parts of begin and advance
 
 // How a run stands.
-#[derive(Drop)]
+#[derive(Clone, Copy)]
 pub enum Standing {
     Open,
     Codeword,
@@ -24,7 +26,7 @@ pub enum Standing {
 }
 
 // The record of a run: how it stands, the number of its iteration, and how many checks are unsatisfied there.
-#[derive(Drop)]
+#[derive(Clone, Copy)]
 pub struct Run {
     pub standing: Standing,
     pub iterations: usize,
@@ -46,7 +48,7 @@ pub struct Advanced {
 }
 
 // What is asked of a run but its scaling, as it is given, any numbers.
-#[derive(Drop)]
+#[derive(Clone, Copy)]
 pub struct Unscaled {
     pub channel: u32,
     pub message: u32,

@@ -1,4 +1,6 @@
 // Posterior sums and bits.
+#![tactic(auto)]
+
 ghost use Rattle.std.specs.Prelude.{◌≡◌, ◌++◌, ℕ, ◌+◌, ◌*◌, ◌/◌, ◌<◌, ◌≤◌, length, drop, replicate, pos, nat_abs, ◌+ℤ◌};
 ghost use Rattle.rules.specs.Ranges.{fold, one, tabulate};
 ghost use Rattle.rules.specs.Levels.{level_of};

@@ -1,4 +1,6 @@
 // Puts the program's printed text, at the front of lent bytes.
+#![tactic(auto)]
+
 ghost use Rattle.std.specs.Prelude.{◌≡◌, [], ◌∷◌, ◌++◌, map, ◌+◌, ◌≤◌, length};
 ghost use Rattle.rules.specs.Graphs.{program_limits};
 ghost use Rattle.texts.specs.Lines.{space, pair, line_text};

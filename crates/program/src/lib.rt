@@ -1,4 +1,6 @@
 // The program's whole answer, as a function of the bytes of the sheet and of the run text.
+#![tactic(auto)]
+
 ghost use Rattle.std.specs.Prelude.{◌≡◌, ◌≤◌, length};
 ghost use Rattle.words.specs.Roles.{graph_of};
 ghost use Rattle.rules.specs.Graphs.{program_limits};

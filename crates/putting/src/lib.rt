@@ -1,4 +1,6 @@
 // Numbers, fields and fixed texts put into a list of bytes.
+#![tactic(auto)]
+
 ghost use Rattle.std.specs.Prelude.{[], ◌∷◌, ◌++◌, ◌+◌, ◌-◌, ◌%◌, ◌<◌, ◌≤◌, length};
 ghost use Rattle.texts.specs.Numbers.{decimal};
 ghost use Rattle.texts.specs.Putting.{Put, last_three};

@@ -1,4 +1,6 @@
 // The levels of channel values, the check of the values, and which frames are blank.
+#![tactic(auto)]
+
 ghost use Rattle.std.specs.Prelude.{◌≡◌, cond, not, ℕ, ◌<◌, ◌≤◌, min, eqb};
 ghost use Rattle.std.specs.Float.{binary32};
 ghost use Rattle.std.specs.Float.Ieee.{of_bits};

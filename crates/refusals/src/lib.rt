@@ -1,9 +1,11 @@
 // Why a call turns its input down. What numbers and places mean is in specs/.
+#![tactic(auto)]
+
 ghost use Rattle.std.specs.Prelude.{◌≡◌};
 ghost use Rattle.refusals.specs.Refusals.{paper};
 
 // Why a call turns its input down. A number is the refusal's place.
-#[derive(Drop)]
+#[derive(Clone, Copy)]
 pub enum Refusal {
     Form(usize),
     Count(usize),
@@ -101,7 +103,7 @@ impl Refusal {
 }
 
 // What a check of some input finds.
-#[derive(Drop)]
+#[derive(Clone, Copy)]
 pub enum Judged {
     Admitted,
     Refused(Refusal),

@@ -1,4 +1,6 @@
 // The answers of two heads with one allowance, and their reports in a list.
+#![tactic(auto)]
+
 ghost use Rattle.std.specs.Prelude.{◌≡◌, ◌+◌, ◌≤◌, length};
 ghost use Rattle.words.specs.Words.{stored};
 ghost use Rattle.interface.specs.Pairs.{party_number, pack_refused, allowance_for, refusal_for, Reportable, ReportsPair};

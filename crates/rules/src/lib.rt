@@ -1,4 +1,6 @@
 // The limits of a graph, and the answers' types. What they mean is in specs/.
+#![tactic(auto)]
+
 ghost use Rattle.std.specs.Prelude.{◌≡◌};
 ghost use Rattle.rules.specs.Graphs.{between};
 
@@ -36,14 +38,14 @@ pub const PROGRAM_CHECKS: usize = 8192;
 pub const PROGRAM_ENTRIES: usize = 32768;
 
 // How a run ended.
-#[derive(Drop)]
+#[derive(Clone, Copy)]
 pub enum Verdict {
     Codeword,
     Stopped,
 }
 
 // What a run reports.
-#[derive(Drop)]
+#[derive(Clone, Copy)]
 pub struct Report {
     pub verdict: Verdict,
     pub iterations: usize,

@@ -1,4 +1,6 @@
 // The settings lines of a run text, and patterns in hexadecimal digits.
+#![tactic(auto)]
+
 ghost use Rattle.std.specs.Prelude.{◌≡◌, ◌*◌, ◌≤◌, length};
 ghost use Rattle.program_texts.specs.RunText.Texts.{hex_digit, hex_digits, pattern, setting, settings, scaling, titles, settings_line};
 ghost use Rattle.run_lines.specs.Places.{WordAt, TripleAt, ScaleAt, TitlesAt, LineAt};

@@ -1,4 +1,6 @@
 // Reads a run text: the settings and the values, or the line that is refused.
+#![tactic(auto)]
+
 ghost use Rattle.std.specs.Prelude.{[], ◌*◌, ◌≤◌, length, drop};
 ghost use Rattle.rules.specs.Graphs.{program_limits};
 ghost use Rattle.program_texts.specs.RunText.Reading.{value_lines, run_text, ReadAs};

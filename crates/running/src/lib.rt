@@ -1,4 +1,6 @@
 // A run in memory of exactly the right lengths, from one halt to the next.
+#![tactic(auto)]
+
 ghost use Rattle.std.specs.Prelude.{◌≡◌, ◌-◌, ◌≤◌, ◌<◌};
 ghost use Rattle.rules.specs.Levels.{largest};
 ghost use Rattle.rules.specs.Sequence.{State, sent};

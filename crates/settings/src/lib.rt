@@ -1,8 +1,10 @@
 // What is asked of a run, and what a check of it finds. What they mean is in specs/.
+#![tactic(auto)]
+
 use refusals::Refusal;
 
 // A plain gain, or a gain with a noise variance.
-#[derive(Drop)]
+#[derive(Clone, Copy)]
 pub enum Scaling {
     Plain(f32),
     Noise(f32, f32),
@@ -10,7 +12,7 @@ pub enum Scaling {
 
 // What is asked of a run, as it is given, any numbers: the scaling, the precisions in bits, the offsets, the limit, and L and W: from
 // iteration `lift_from` on a saturated check message counts as magnitude `lift_to`.
-#[derive(Drop)]
+#[derive(Clone, Copy)]
 pub struct Parameters {
     pub scaling: Scaling,
     pub channel: u32,
@@ -24,7 +26,7 @@ pub struct Parameters {
 }
 
 // The same once it is checked, with the factor of the scaling.
-#[derive(Drop)]
+#[derive(Clone, Copy)]
 pub struct Settings {
     pub factor: f32,
     pub channel: u8,

@@ -1,4 +1,6 @@
 // The check of a graph up to its degrees: counts, starts, columns and rows.
+#![tactic(auto)]
+
 ghost use Rattle.std.specs.Prelude.{◌≡◌, ◌-◌, ◌/◌, ◌≤◌, ◌<◌, length};
 ghost use Rattle.rules.specs.Graphs.{limits};
 ghost use Rattle.refusals.specs.declared.Judged.TheVariants as Judgement;

@@ -1,4 +1,6 @@
 // The lines of a sheet that was judged: the degrees of its checks and variables.
+#![tactic(auto)]
+
 ghost use Rattle.std.specs.Prelude.{◌≡◌, ◌+◌, ◌*◌, ◌/◌, ◌≤◌, ◌<◌, length};
 ghost use Rattle.rules.specs.Graphs.{limits};
 ghost use Rattle.words.specs.Roles.{wide};

@@ -1,4 +1,6 @@
 // Writes a code sheet: first its length, then its text.
+#![tactic(auto)]
+
 ghost use Rattle.std.specs.Prelude.{◌≡◌, ◌+◌, ◌-◌, ◌*◌, ◌/◌, ◌<◌, ◌≤◌, length};
 ghost use Rattle.rules.specs.Graphs.{limits, Admitted};
 ghost use Rattle.texts.specs.Numbers.{decimal};

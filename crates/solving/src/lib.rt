@@ -1,4 +1,6 @@
 // The least codeword that holds given bits, by elimination.
+#![tactic(auto)]
+
 ghost use Rattle.std.specs.Prelude.{◌≡◌, false, ℕ, ◌-◌, ◌*◌, ◌/◌, ◌+◌, ◌<◌, ◌≤◌, length};
 ghost use Rattle.std.specs.Bool.{xor};
 ghost use Rattle.rules.specs.Graphs.{Graph, Admitted};

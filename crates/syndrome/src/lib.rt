@@ -1,4 +1,6 @@
 // The syndrome of bits on an admitted graph: which checks have an odd number of ones.
+#![tactic(auto)]
+
 ghost use Rattle.std.specs.Prelude.{◌≡◌, false, ℕ, ◌-◌, ◌/◌, ◌<◌, ◌≤◌, eqb, length};
 ghost use Rattle.std.specs.Bool.{xor};
 ghost use Rattle.rules.specs.Ranges.{fold};

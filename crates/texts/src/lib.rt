@@ -1,4 +1,5 @@
 // Numbers, fields and lines of a text, as they are read. What they mean is in specs/.
+#![tactic(auto)]
 
 // A number and the place after it. A number above every limit is given as CAP.
 #[derive(Drop)]

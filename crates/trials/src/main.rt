@@ -1,5 +1,7 @@
 // Runs the trials on standard input, and writes what the program `frame` answers to each.
 // A trial is a line with the lengths of its sheet and of its run text, then both.
+#![tactic(auto)]
+
 use libc::{STDIN_FILENO, STDOUT_FILENO};
 use texts::Line;
 

@@ -1,4 +1,6 @@
 // Variable nodes: the messages that variables send.
+#![tactic(auto)]
+
 ghost use Rattle.std.specs.Prelude.{◌≡◌, ℕ, ◌-◌, ◌/◌, ◌<◌, ◌^◌, length, pos, nat_abs, ◌-ℤ◌};
 ghost use Rattle.rules.specs.Ranges.{tabulate};
 ghost use Rattle.rules.specs.Levels.{byte};
