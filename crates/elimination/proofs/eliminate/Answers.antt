@@ -1,0 +1,28 @@
+use mathlib.Core.Path.{◌∙◌}
+use mathlib.Core.Bool.{true}
+use Prim.Native.Nat.{◌-◌}
+use native.Mathlib.Omega.{arith}
+use borrow.Author.Rules.{rules}
+use Rattle.elimination.proofs.Steps.{eliminated-none, eliminated-more, eliminated-fail, eliminated-next, eliminated-all}
+use Rattle.elimination.proofs.eliminate.Goals as goal
+
+pub loop-i-init : goal.loop-i-init
+loop-i-init c = (search rules, eliminated-none, search rules)
+
+pub reduce-requires : goal.reduce-requires
+reduce-requires c = (c.loop-i.invariant.1.long ∙ c.requires.0, search rules, search rules)
+
+pub shape_of-work-then-not-reduce : goal.shape_of-work-then-not-reduce
+shape_of-work-then-not-reduce c = c.reduce.ensures.long ∙ c.loop-i.invariant.1.long
+
+pub returns-then-not-reduce : goal.returns-then-not-reduce
+returns-then-not-reduce c = eliminated-fail (c.if-not-reduce.true) (eliminated-more c.loop-i.invariant.1 c.reduce.ensures)
+
+pub loop-i-preserved : goal.loop-i-preserved
+loop-i-preserved c = (search rules, eliminated-next (c.if-not-reduce.false) (eliminated-more c.loop-i.invariant.1 c.reduce.ensures), search rules)
+
+pub shape_of-work : goal.shape_of-work
+shape_of-work c = c.loop-i.invariant.1.long
+
+pub returns : goal.returns
+returns c = eliminated-all (omega arith) c.loop-i.invariant.1
