@@ -1,0 +1,4 @@
+use Rattle.channel.proofs.lifting_admitted.Goals as goal
+
+pub returns : goal.returns
+returns c = rw c.largest-most.ensures

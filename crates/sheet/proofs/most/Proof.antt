@@ -1,9 +1,0 @@
-use mathlib.Core.Path.{refl}
-use Rattle.sheet.proofs.most.Statement.{statement}
-use Rattle.sheet.proofs.most.Tie as tie
-
-returns : tie.Need-returns
-returns c = refl
-
-pub most-spec : {M : Type 1} → statement M
-most-spec = tie.close (tie.spec returns)

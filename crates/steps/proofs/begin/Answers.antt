@@ -1,0 +1,22 @@
+use mathlib.Core.Path.{◌≡◌, ap, ◌∙◌}
+use Prim.Native.Nat.{◌/◌}
+use native.Mathlib.Omega.{arith}
+use lib.ListN.{length}
+use Rattle.words.specs.Roles.{wide}
+use Rattle.rules.specs.Ranges.{tabulate}
+use Rattle.settings.proofs.Magnitudes.{quantised-all}
+use Rattle.steps.proofs.begin.Goals as goal
+
+pub first_messages-requires : goal.first_messages-requires
+first_messages-requires c = record { outgoing_len = (omega arith, omega arith); by_index = λ e h. omega (arith, c.quantise.auto.levels, c.requires.by_index e (omega arith)) }
+
+pub returns : goal.returns
+returns c =
+    let h : length c.args.variable_messages.now ≡ length c.args.columns.now / wide = omega arith in
+    record {
+      levels = c.quantise.ensures ∙ quantised-all c.args.channel_most c.args.factor c.args.values.now c.args.levels.now (omega arith) (omega arith);
+      variable_messages = c.first_messages.ensures ∙ ap (tabulate _) h;
+      check_messages = c.clear.ensures;
+      sums = c.clear-2.ensures;
+      bits = c.first_bits.ensures;
+    }
