@@ -39,7 +39,7 @@ fill-requires-2 c = (omega (arith, c.loop-k.invariant.1.pass.at.high), omega (ar
 
 pub shape_of-starts : goal.shape_of-starts
 shape_of-starts c =
-    let last : Filled wide (start_in c.loop-k.invariant.1.pass.held.entries) c.args.starts.now c.fill-2.new.0 (c.args.counts.checks + 1) = let q = c.loop-k.invariant.1 in c.fill-2.ensures (start_in q.pass.held.entries) c.args.starts.now q.starts-are (λ j l u. pass-ends q.pass (omega arith) j l) in
+    let last : Filled wide (start_in c.loop-k.invariant.1.pass.held.entries) c.args.starts.now c.fill-2.new.starts (c.args.counts.checks + 1) = let q = c.loop-k.invariant.1 in c.fill-2.ensures (start_in q.pass.held.entries) c.args.starts.now q.starts-are (λ j l u. pass-ends q.pass (omega arith) j l) in
     (last).long
 
 pub shape_of-columns : goal.shape_of-columns
@@ -47,5 +47,5 @@ shape_of-columns c = c.loop-k.invariant.1.columns-are.long
 
 pub returns : goal.returns
 returns c =
-    let last : Filled wide (start_in c.loop-k.invariant.1.pass.held.entries) c.args.starts.now c.fill-2.new.0 (c.args.counts.checks + 1) = let q = c.loop-k.invariant.1 in c.fill-2.ensures (start_in q.pass.held.entries) c.args.starts.now q.starts-are (λ j l u. pass-ends q.pass (omega arith) j l) in
+    let last : Filled wide (start_in c.loop-k.invariant.1.pass.held.entries) c.args.starts.now c.fill-2.new.starts (c.args.counts.checks + 1) = let q = c.loop-k.invariant.1 in c.fill-2.ensures (start_in q.pass.held.entries) c.args.starts.now q.starts-are (λ j l u. pass-ends q.pass (omega arith) j l) in
     stage-all c.loop-k.invariant.1 (omega arith) (last)
