@@ -1,0 +1,4 @@
+use Rattle.grants.proofs.report_of.Goals as goal
+
+pub returns : goal.returns
+returns c = rw c.verdict_of.ensures
