@@ -10,7 +10,7 @@ use Rattle.rules.specs.Graphs.{limits, least_variable_degree, between}
 use Rattle.refusals.specs.declared.Refusal.{Refusal}
 use Rattle.refusals.specs.declared.Refusal.TheVariants.{Degree}
 use Rattle.refusals.specs.declared.Judged.TheVariants.{Admitted, Refused}
-use Rattle.refusals.proofs.Judging.{Passed, passed_none, passed-more, passed-all, failed-at}
+use Rattle.refusals.proofs.Judging.{Passed, passed_none, passed_more, passed_all, failed_at}
 use Rattle.words.specs.Roles.{degree_at}
 use Rattle.block_sheets.specs.Text.Scanning.{counts_in}
 use Rattle.block_sheets.specs.declared.Counts.{Counts}
@@ -29,27 +29,27 @@ module _ (k : Counts) (d : List ℕ) where
     pub at : v ≡ j * k.size
     pub passed : Passed test refusal j
 
-  pub looking-none : Looking 0 0
-  looking-none = record { up = omega arith; at = sym (zero-mul k.size); passed = passed_none }
+  pub looking_none : Looking 0 0
+  looking_none = record { up = omega arith; at = sym (zero-mul k.size); passed = passed_none }
 
 module _ {k : Counts} {d : List ℕ} {j v : ℕ} (q : Looking k d j v) where
-  pub looking-room : j < k.columns → v + k.size ≤ k.columns * k.size
-  looking-room l = omega (arith, q.at, suc-mul j k.size, mul-le-mul_right {m = suc j} {n = k.columns} k.size l)
+  pub looking_room : j < k.columns → v + k.size ≤ k.columns * k.size
+  looking_room l = omega (arith, q.at, suc-mul j k.size, mul-le-mul_right {m = suc j} {n = k.columns} k.size l)
 
   -- what the code finds of variable v
   module _ {b : Bool} (e : b ≡ between least_variable_degree (degree_at d v) limits.variable_degree) where
     here : test k d j ≡ b
     here = ap (λ (n : ℕ). between least_variable_degree (degree_at d n) limits.variable_degree) (sym q.at) ∙ sym e
 
-    pub looking-failed : b ≡ false → j < k.columns → Refused (Degree (k.rows * k.size + v)) ≡ column_degrees_judged (counts_in k) d
-    looking-failed t l = ap (λ (n : ℕ). Refused (Degree (k.rows * k.size + n))) q.at ∙ sym (failed-at q.passed (here ∙ t) l)
+    pub looking_failed : b ≡ false → j < k.columns → Refused (Degree (k.rows * k.size + v)) ≡ column_degrees_judged (counts_in k) d
+    looking_failed t l = ap (λ (n : ℕ). Refused (Degree (k.rows * k.size + n))) q.at ∙ sym (failed_at q.passed (here ∙ t) l)
 
-    pub looking-more : b ≡ true → j < k.columns → Looking k d (j + 1) (v + k.size)
-    looking-more t l = record {
+    pub looking_more : b ≡ true → j < k.columns → Looking k d (j + 1) (v + k.size)
+    looking_more t l = record {
       up = omega arith;
       at = ap (λ (n : ℕ). n + k.size) q.at ∙ sym (suc-mul j k.size) ∙ ap (λ (n : ℕ). n * k.size) (sym (add-one j));
-      passed = passed-more q.passed (here ∙ t);
+      passed = passed_more q.passed (here ∙ t);
     }
 
-  pub looking-all : k.columns ≤ j → Admitted ≡ column_degrees_judged (counts_in k) d
-  looking-all l = sym (passed-all q.passed (omega (arith, q.up)))
+  pub looking_all : k.columns ≤ j → Admitted ≡ column_degrees_judged (counts_in k) d
+  looking_all l = sym (passed_all q.passed (omega (arith, q.up)))

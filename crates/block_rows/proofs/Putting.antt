@@ -12,23 +12,23 @@ use lib.Dec.{eqb}
 use lib.ListN.{length, get_or, drop, take-append-drop}
 use Rattle.words.specs.Words.{stored}
 use Rattle.words.specs.Roles.{wide, column_at}
-use Rattle.words.proofs.Words.{length-stored, put-table, table-self}
-use Rattle.block_sheets.proofs.Text.Rows.{part-mod, part-below}
+use Rattle.words.proofs.Words.{length_stored, put_table, table_self}
+use Rattle.block_sheets.proofs.Text.Rows.{part_mod, part_below}
 use Rattle.block_sheets.specs.Reader.Storing.{Holds, Along, PutsAlong, one_of, RowPut, PutsRow}
 
 -- ---- a list that holds numbers
 
 -- any list holds its own
-pub holds-self : (M : ℕ) (c : List ℕ) → wide * M ≤ length c → ((k : ℕ) → get_or c k 0 < 256) → Holds M (column_at c) c c
-holds-self M c l h = record { long = refl; is = sym (take-append-drop (wide * M) c) ∙ ap (λ (t : List ℕ). t ++ drop (wide * M) c) (sym (table-self wide c M l h)) }
+pub holds_self : (M : ℕ) (c : List ℕ) → wide * M ≤ length c → ((k : ℕ) → get_or c k 0 < 256) → Holds M (column_at c) c c
+holds_self M c l h = record { long = refl; is = sym (take-append-drop (wide * M) c) ∙ ap (λ (t : List ℕ). t ++ drop (wide * M) c) (sym (table_self wide c M l h)) }
 
 -- one number put
-holds-put : {M : ℕ} {g : ℕ → ℕ} {old now later : List ℕ} (i x : ℕ) → Holds M g old now → i < M → later ≡ stored wide now (wide * i) x
+holds_put : {M : ℕ} {g : ℕ → ℕ} {old now later : List ℕ} (i x : ℕ) → Holds M g old now → i < M → later ≡ stored wide now (wide * i) x
     → Holds M (λ k. cond (eqb k i) x (g k)) old later
-holds-put {M} {g} {old} {now} {later} i x h l e = record {
-  long = ap length e ∙ length-stored wide now (wide * i) x ∙ h.long;
+holds_put {M} {g} {old} {now} {later} i x h l e = record {
+  long = ap length e ∙ length_stored wide now (wide * i) x ∙ h.long;
   is = e ∙ ap (λ (b : List ℕ). stored wide b (wide * i) x) h.is
-      ∙ put-table wide g (λ k. cond (eqb k i) x (g k)) M (drop (wide * M) old) i x l (rw (eq-eqb i i refl)) (λ j u n. rw (ne_eqb j i n));
+      ∙ put_table wide g (λ k. cond (eqb k i) x (g k)) M (drop (wide * M) old) i x l (rw (eq-eqb i i refl)) (λ j u n. rw (ne_eqb j i n));
 }
 
 -- ---- numbers put d apart
@@ -41,23 +41,23 @@ pub record Going (e d : ℕ) (f : ℕ → ℕ) (c c' : List ℕ) (r : ℕ) : Typ
   pub long : length c' ≡ length c
   pub puts : PutsAlong e d r f c c'
 
-pub along-none : (e d : ℕ) (f : ℕ → ℕ) (c : List ℕ) → Going e d f c c 0
-along-none e d f c = record {
+pub along_none : (e d : ℕ) (f : ℕ → ℕ) (c : List ℕ) → Going e d f c c 0
+along_none e d f c = record {
   long = refl;
   puts = λ M g old h room. record { then = g; holds = h; at = λ r l. absurd (omega arith); else_same = λ i n. refl };
 }
 
-pub along-more : {e d : ℕ} {f : ℕ → ℕ} {c c' : List ℕ} {r : ℕ} → Going e d f c c' r → 0 < d → {later : List ℕ} {x : ℕ} → later ≡ stored wide c' (wide * (e + r * d)) x
+pub along_more : {e d : ℕ} {f : ℕ → ℕ} {c c' : List ℕ} {r : ℕ} → Going e d f c c' r → 0 < d → {later : List ℕ} {x : ℕ} → later ≡ stored wide c' (wide * (e + r * d)) x
     → x ≡ f r → Going e d f c later (r + 1)
-along-more {e} {d} {f} {c} {c'} {r} q h {later} {x} s v = record {
-  long = ap length s ∙ length-stored wide c' (wide * (e + r * d)) x ∙ q.long;
+along_more {e} {d} {f} {c} {c'} {r} q h {later} {x} s v = record {
+  long = ap length s ∙ length_stored wide c' (wide * (e + r * d)) x ∙ q.long;
   puts = λ M g old k room. more M g old (q.puts M g old k (λ t l. room t (omega arith))) (room r (omega arith));
 }
   where
     more : (M : ℕ) (g : ℕ → ℕ) (old : List ℕ) → Along M g old c' e d r f → e + r * d < M → Along M g old later e d (r + 1) f
     more M g old a l = record {
       then = λ k. cond (eqb k (e + r * d)) x (a.then k);
-      holds = holds-put (e + r * d) x a.holds l s;
+      holds = holds_put (e + r * d) x a.holds l s;
       at = λ t u. go t u (dec_lt t r);
       else_same = λ i n. rw (ne_eqb i (e + r * d) (n r (omega arith))) (a.else_same i (λ t u. n t (omega arith)));
     }
@@ -66,8 +66,8 @@ along-more {e} {d} {f} {c} {c'} {r} q h {later} {x} s v = record {
         go t u (yes y) = rw (ne_eqb (e + t * d) (e + r * d) (λ z. absurd (omega (arith, apart d h t r y)))) (a.at t y)
         go t u (no n) = let same : t ≡ r = omega arith in rw (same, eq-eqb (e + r * d) (e + r * d) refl) v
 
-pub along-all : {e d : ℕ} {f : ℕ → ℕ} {c c' : List ℕ} {r count : ℕ} → Going e d f c c' r → r ≡ count → PutsAlong e d count f c c'
-along-all {e} {d} {f} {c} {c'} q t = subst (λ (n : ℕ). PutsAlong e d n f c c') t q.puts
+pub along_all : {e d : ℕ} {f : ℕ → ℕ} {c c' : List ℕ} {r count : ℕ} → Going e d f c c' r → r ≡ count → PutsAlong e d count f c c'
+along_all {e} {d} {f} {c} {c'} q t = subst (λ (n : ℕ). PutsAlong e d n f c c') t q.puts
 
 -- ---- the ones of an entry
 
@@ -82,9 +82,9 @@ module _ (e d base shift size first : ℕ) (h : 0 < d) (u : shift < size) (is-fi
   shifted : (r : ℕ) → e + first * d + r * d ≡ e + (first + r) * d
   shifted r = omega (arith, add-mul first r d)
 
-  pub entry-puts : {c c₁ c₂ : List ℕ} → PutsAlong e d first (λ r. base + shift + r) c c₁ → PutsAlong (e + first * d) d shift (λ r. base + r) c₁ c₂
+  pub entry_puts : {c c₁ c₂ : List ℕ} → PutsAlong e d first (λ r. base + shift + r) c c₁ → PutsAlong (e + first * d) d shift (λ r. base + r) c₁ c₂
       → PutsAlong e d size (one_of base shift size) c c₂
-  entry-puts {c} {c₁} {c₂} p q M g old k room =
+  entry_puts {c} {c₁} {c₂} p q M g old k room =
       let a = p M g old k (λ r l. room r (omega arith)) in
       let b = q M a.then old a.holds (λ r l. omega (arith, shifted r, room (first + r) (omega arith))) in
       record {
@@ -110,21 +110,21 @@ pub record Rowing (bases shifts : List ℕ) (d size e : ℕ) (c c' : List ℕ) (
   pub long : length c' ≡ length c
   pub puts : (M : ℕ) (g : ℕ → ℕ) (old : List ℕ) → Holds M g old c → e + size * d ≤ M → RowPut M g old c' bases shifts d size e q
 
-pub row-none : (bases shifts : List ℕ) (d size e : ℕ) (c : List ℕ) → Rowing bases shifts d size e c c 0
-row-none bases shifts d size e c = record {
+pub row_none : (bases shifts : List ℕ) (d size e : ℕ) (c : List ℕ) → Rowing bases shifts d size e c c 0
+row_none bases shifts d size e c = record {
   long = refl;
   puts = λ M g old h l. record { then = g; holds = h; at = λ r p u v. absurd (omega arith); above = λ i u. refl };
 }
 
 -- the places of entry p
 module _ (d size e p : ℕ) (l : p < d) where
-  pub place-below : (r : ℕ) → r < size → e + p + r * d < e + size * d
-  place-below r u = omega (arith, part-below d r p l size u)
+  pub place_below : (r : ℕ) → r < size → e + p + r * d < e + size * d
+  place_below r u = omega (arith, part_below d r p l size u)
 
   -- are those of no other entry
   others : (r s k : ℕ) → k < d → k ≢ p → e + r * d + k ≢ e + p + s * d
   others r s k u n z =
-      n (sym (part-mod d r k u) ∙ ap (λ (x : ℕ). x % d) (let w : r * d + k ≡ s * d + p = omega arith in w) ∙ part-mod d s p l)
+      n (sym (part_mod d r k u) ∙ ap (λ (x : ℕ). x % d) (let w : r * d + k ≡ s * d + p = omega arith in w) ∙ part_mod d s p l)
 
 pub row_more : {bases shifts : List ℕ} {d size e : ℕ} {c c' : List ℕ} {p : ℕ} → Rowing bases shifts d size e c c' p → p < d → {later : List ℕ} {base shift : ℕ}
     → length later ≡ length c → base ≡ column_at bases p → shift ≡ column_at shifts p → PutsAlong (e + p) d size (one_of base shift size) c' later
@@ -136,7 +136,7 @@ row_more {bases} {shifts} {d} {size} {e} {c} {c'} {p} q l {later} {base} {shift}
   where
     more : (M : ℕ) (g : ℕ → ℕ) (old : List ℕ) → e + size * d ≤ M → RowPut M g old c' bases shifts d size e p → RowPut M g old later bases shifts d size e (p + 1)
     more M g old u w =
-        let a = puts M w.then old w.holds (λ r v. omega (arith, place-below d size e p l r v)) in
+        let a = puts M w.then old w.holds (λ r v. omega (arith, place_below d size e p l r v)) in
         record {
           then = a.then;
           holds = a.holds;
@@ -152,5 +152,5 @@ row_more {bases} {shifts} {d} {size} {e} {c} {c'} {p} q l {later} {base} {shift}
             let at : e + r * d + k ≡ e + p + r * d = omega arith in
             ap a.then at ∙ a.at r v ∙ ap₂ (λ (x t : ℕ). one_of x t size r) eb es ∙ ap (λ (n : ℕ). one_of (column_at bases n) (column_at shifts n) size r) (sym same)
 
-pub row-all : {bases shifts : List ℕ} {d size e : ℕ} {c c' : List ℕ} {p : ℕ} → Rowing bases shifts d size e c c' p → p ≡ d → PutsRow bases shifts d size e c c'
-row-all {bases} {shifts} {d} {size} {e} {c} {c'} q t M g old h u = subst (RowPut M g old c' bases shifts d size e) t (q.puts M g old h u)
+pub row_all : {bases shifts : List ℕ} {d size e : ℕ} {c c' : List ℕ} {p : ℕ} → Rowing bases shifts d size e c c' p → p ≡ d → PutsRow bases shifts d size e c c'
+row_all {bases} {shifts} {d} {size} {e} {c} {c'} q t M g old h u = subst (RowPut M g old c' bases shifts d size e) t (q.puts M g old h u)

@@ -13,8 +13,8 @@ both_false true false h k = h true≢false
 both_false false true h k = sym (k true≢false)
 both_false false false h k = refl
 
-pub least-only : LeastOnly
-least-only n S x y p q v l = agree n (omega arith) v l
+pub least_only : LeastOnly
+least_only n S x y p q v l = agree n (omega arith) v l
   where
     agree : (w : ℕ) → w ≤ n → (v : ℕ) → v < w → x v ≡ y v
     agree zero l v u = absurd (omega arith)

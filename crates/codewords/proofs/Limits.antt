@@ -16,15 +16,15 @@ use Rattle.refusals.specs.declared.Refusal.TheVariants.{Count}
 use Rattle.rules.proofs.Tests.{and_left, and_right}
 use Rattle.graphs.specs.Judging.{counts_judged, shape_judged, countable, graph_judged_in}
 use Rattle.graphs.specs.Degrees.{Checks}
-use Rattle.graphs.proofs.Wider.{check-degrees-alike, variable-degrees-alike}
+use Rattle.graphs.proofs.Wider.{check_degrees_alike, variable_degrees_alike}
 use Rattle.codewords.specs.Encoding.{encoder_limits, given_judged, input_judged, JudgesInput}
 
-encoder-wider : Wider encoder_limits limits
-encoder-wider = record { variables = omega arith; checks = omega arith; entries = omega arith; check_degree = refl; variable_degree = refl }
+encoder_wider : Wider encoder_limits limits
+encoder_wider = record { variables = omega arith; checks = omega arith; entries = omega arith; check_degree = refl; variable_degree = refl }
 
 -- admitted under wider limits
-pub admitted-wider : {G : Graph} → AdmittedWithin encoder_limits G → AdmittedWithin limits G
-admitted-wider a = record {
+pub admitted_wider : {G : Graph} → AdmittedWithin encoder_limits G → AdmittedWithin limits G
+admitted_wider a = record {
   variables = (a.variables.0, omega (arith, a.variables.1));
   checks = (a.checks.0, omega (arith, a.checks.1));
   entries = a.entries;
@@ -50,9 +50,9 @@ module _ (G : Graph) where
   small = leb G.variables encoder_limits.variables && leb G.checks encoder_limits.checks
 
   module _ (large : small ≡ false) where
-    counts-large : counts_judged encoder_limits G ≡ Refused (Count 0)
+    counts_large : counts_judged encoder_limits G ≡ Refused (Count 0)
     unfolding counts_judged
-    counts-large = go (leb 2 G.variables) (leb G.variables 2048) (leb 1 G.checks) (leb G.checks 512) (leb G.entries limits.entries) large
+    counts_large = go (leb 2 G.variables) (leb G.variables 2048) (leb 1 G.checks) (leb G.checks 512) (leb G.entries limits.entries) large
       where
         go : (a b c d e : Bool) → b && d ≡ false → or_else (unless (a && b) (Count 0)) (or_else (unless (c && d) (Count 0)) (unless e (Count 0))) ≡ Refused (Count 0)
         go false b c d e h = refl
@@ -61,30 +61,30 @@ module _ (G : Graph) where
         go true true true false e h = refl
         go true true true true e h = absurd (true≢false h)
 
-    pub judges-large : (positions given d : List ℕ) → JudgesInput G positions given (Refused (Count 0)) d d
+    pub judges_large : (positions given d : List ℕ) → JudgesInput G positions given (Refused (Count 0)) d d
     unfolding shape_judged countable graph_judged_in input_judged
-    judges-large positions given d = record { answer = sym (rw counts-large); degrees = sym (rw counts-large) }
+    judges_large positions given d = record { answer = sym (rw counts_large); degrees = sym (rw counts_large) }
 
   module _ (few : small ≡ true) where
-    counts-alike : counts_judged encoder_limits G ≡ counts_judged limits G
+    counts_alike : counts_judged encoder_limits G ≡ counts_judged limits G
     unfolding counts_judged
-    counts-alike =
+    counts_alike =
         let n = leb-true G.variables 2048 (and_left (leb G.variables 2048) (leb G.checks 512) few) in
         let m = leb-true G.checks 512 (and_right (leb G.variables 2048) (leb G.checks 512) few) in
         rw (le-leb G.variables 2048 n, le-leb G.variables 1_000_000 (omega (arith, n)), le-leb G.checks 512 m, le-leb G.checks 1_000_000 (omega (arith, m)))
 
-    countable-alike : (d : ℕ) → countable encoder_limits G d ≡ countable limits G d
+    countable_alike : (d : ℕ) → countable encoder_limits G d ≡ countable limits G d
     unfolding shape_judged countable
-    countable-alike d = rw counts-alike
+    countable_alike d = rw counts_alike
 
-    pub graph-alike : (d : ℕ) → graph_judged_in encoder_limits G d ≡ graph_judged_in limits G d
+    pub graph_alike : (d : ℕ) → graph_judged_in encoder_limits G d ≡ graph_judged_in limits G d
     unfolding graph_judged_in
-    graph-alike d = rw (countable-alike d, ← check-degrees-alike encoder-wider G, ← variable-degrees-alike encoder-wider G)
+    graph_alike d = rw (countable_alike d, ← check_degrees_alike encoder_wider G, ← variable_degrees_alike encoder_wider G)
 
-    pub judges-small : (positions given : List ℕ) {j r : Judged} {d d' : List ℕ} → Checks limits G j d d' → r ≡ or_else j (given_judged G.variables positions given)
+    pub judges_small : (positions given : List ℕ) {j r : Judged} {d d' : List ℕ} → Checks limits G j d d' → r ≡ or_else j (given_judged G.variables positions given)
         → JudgesInput G positions given r d d'
     unfolding input_judged
-    judges-small positions given {d = d} k e = record {
-      answer = e ∙ ap (λ x. or_else x (given_judged G.variables positions given)) (k.answer ∙ sym (graph-alike (length d)));
-      degrees = k.degrees ∙ sym (rw (countable-alike (length d)));
+    judges_small positions given {d = d} k e = record {
+      answer = e ∙ ap (λ x. or_else x (given_judged G.variables positions given)) (k.answer ∙ sym (graph_alike (length d)));
+      degrees = k.degrees ∙ sym (rw (countable_alike (length d)));
     }

@@ -14,72 +14,72 @@ use Rattle.refusals.specs.declared.Judged.{Judged}
 use Rattle.refusals.specs.declared.Judged.TheVariants.{Admitted, Refused}
 use Rattle.refusals.specs.declared.Refusal.{Refusal}
 use Rattle.refusals.specs.declared.Refusal.TheVariants.{Length, Blank, Buffer}
-use Rattle.refusals.proofs.Judging.{or_else-left, or_else-right, or_else-none, unless-true}
+use Rattle.refusals.proofs.Judging.{or_else_left, or_else_right, or_else_none, unless_true}
 use Rattle.rules.proofs.Tests.{and_left, and_right}
-use Rattle.rules.proofs.Own.{largest-within, largest-some}
+use Rattle.rules.proofs.Own.{largest_within, largest_some}
 use Rattle.graphs.specs.Degrees as Lent
 use Rattle.graphs.proofs.Wider.{found_before}
 use Rattle.settings.specs.declared.Settings.{Settings}
 use Rattle.settings.specs.declared.Checked.{Checked}
 use Rattle.settings.specs.declared.Checked.TheVariants as Checks
 use Rattle.settings.specs.Settings.{settings, settings_judged, checked, settings_of}
-use Rattle.settings.proofs.Accepted.{good-settings}
+use Rattle.settings.proofs.Accepted.{good_settings}
 use Rattle.settings.specs.Values.{values_judged, blank_values}
 use Rattle.decoding.specs.declared.Room.{Room}
 use Rattle.decoding.specs.Decoding.{Frame, graph, enough, asked_judged, is_blank, frame_judged, decode_judged, decode_finds, Accepts, AsBefore, ExposedAsBefore}
 
 -- what is judged after the graph
 module _ (F : Frame) where
-  pub length-refused : (length F.values / 4 ≡ F.variables → ⊥) → asked_judged F ≡ Refused (Length (length F.values / 4))
-  length-refused h = rw (ne_eqb (length F.values / 4) F.variables h)
+  pub length_refused : (length F.values / 4 ≡ F.variables → ⊥) → asked_judged F ≡ Refused (Length (length F.values / 4))
+  length_refused h = rw (ne_eqb (length F.values / 4) F.variables h)
 
   module _ (l : length F.values / 4 ≡ F.variables) where
-    pub settings-refused : {r : Refusal} → settings_judged F.asked ≡ Refused r → asked_judged F ≡ Refused r
-    settings-refused c = rw (eq-eqb (length F.values / 4) F.variables l, c)
+    pub settings_refused : {r : Refusal} → settings_judged F.asked ≡ Refused r → asked_judged F ≡ Refused r
+    settings_refused c = rw (eq-eqb (length F.values / 4) F.variables l, c)
 
     -- what is left is the values
-    pub values-judged : {j : Judged} → settings_judged F.asked ≡ Admitted → values_judged F.values ≡ j → asked_judged F ≡ j
-    values-judged c d = rw (eq-eqb (length F.values / 4) F.variables l, c, d)
+    pub values_judged_lem : {j : Judged} → settings_judged F.asked ≡ Admitted → values_judged F.values ≡ j → asked_judged F ≡ j
+    values_judged_lem c d = rw (eq-eqb (length F.values / 4) F.variables l, c, d)
 
 -- where g is found of the graph, up to the memory
 module _ (F : Frame) (g : Judged) where
-  pub frame-asked : {r : Refusal} → g ≡ Admitted → asked_judged F ≡ Refused r → frame_judged F g ≡ Refused r
+  pub frame_asked : {r : Refusal} → g ≡ Admitted → asked_judged F ≡ Refused r → frame_judged F g ≡ Refused r
   unfolding frame_judged
-  frame-asked a h = rw (a, h)
+  frame_asked a h = rw (a, h)
 
   -- what is left is the exposure
-  pub frame-exposed : {b : Bool} → g ≡ Admitted → asked_judged F ≡ Admitted → is_blank F ≡ b → frame_judged F g ≡ unless (not b) Blank
+  pub frame_exposed : {b : Bool} → g ≡ Admitted → asked_judged F ≡ Admitted → is_blank F ≡ b → frame_judged F g ≡ unless (not b) Blank
   unfolding frame_judged
-  frame-exposed a h e = rw (a, h, e)
+  frame_exposed a h e = rw (a, h, e)
 
-  pub frame-passed : frame_judged F g ≡ Admitted → (g ≡ Admitted) × (asked_judged F ≡ Admitted)
+  pub frame_passed : frame_judged F g ≡ Admitted → (g ≡ Admitted) × (asked_judged F ≡ Admitted)
   unfolding frame_judged
-  frame-passed h =
+  frame_passed h =
       let exposed = unless (not (is_blank F)) Blank in
-      (or_else-left g (or_else (asked_judged F) exposed) h, or_else-left (asked_judged F) exposed (or_else-right g (or_else (asked_judged F) exposed) h))
+      (or_else_left g (or_else (asked_judged F) exposed) h, or_else_left (asked_judged F) exposed (or_else_right g (or_else (asked_judged F) exposed) h))
 
   module _ (m : Room) where
-    pub graph-refused : {r : Refusal} → g ≡ Refused r → decode_judged F g m ≡ Refused r
+    pub graph_refused : {r : Refusal} → g ≡ Refused r → decode_judged F g m ≡ Refused r
     unfolding frame_judged decode_judged
-    graph-refused a = rw a
+    graph_refused a = rw a
 
     pub frame_refused : {r : Refusal} → frame_judged F g ≡ Refused r → decode_judged F g m ≡ Refused r
     unfolding decode_judged
     frame_refused a = rw a
 
     module _ (a : frame_judged F g ≡ Admitted) where
-      pub memory-refused : enough F.variables (graph F).entries m ≡ false → decode_judged F g m ≡ Refused Buffer
+      pub memory_refused : enough F.variables (graph F).entries m ≡ false → decode_judged F g m ≡ Refused Buffer
       unfolding decode_judged
-      memory-refused b = rw (a, b)
+      memory_refused b = rw (a, b)
 
-      pub all-admitted : enough F.variables (graph F).entries m ≡ true → decode_judged F g m ≡ Admitted
+      pub all_admitted : enough F.variables (graph F).entries m ≡ true → decode_judged F g m ≡ Admitted
       unfolding decode_judged
-      all-admitted b = rw (a, b)
+      all_admitted b = rw (a, b)
 
 -- the answer of `accept`, once its judgement j is known; the list is as the check of the graph left it
-pub accepts-as : (F : Frame) (m : Room) {r : Judged} {old now : List ℕ} {j : Judged} {a : Checked} → Lent.Checks limits (graph F) r old now
+pub accepts_as : (F : Frame) (m : Room) {r : Judged} {old now : List ℕ} {j : Judged} {a : Checked} → Lent.Checks limits (graph F) r old now
     → decode_finds F (length old) m ≡ j → a ≡ checked j (settings F.asked) → Accepts F m a old now
-accepts-as F m k h q = record { answer = q ∙ ap (λ j. checked j (settings F.asked)) (sym h); degrees = k.degrees }
+accepts_as F m k h q = record { answer = q ∙ ap (λ j. checked j (settings F.asked)) (sym h); degrees = k.degrees }
 
 -- and of `accept_on`
 pub answered : (F : Frame) (m : Room) {j : Judged} {a : Checked} → decode_judged F Admitted m ≡ j → a ≡ checked j (settings F.asked) → a ≡ checked (decode_judged F Admitted m) (settings F.asked)
@@ -90,32 +90,32 @@ pub as_before : AsBefore
 as_before F d m o = ap (λ g. decode_judged F g m) (found_before (graph F) d o)
 
 -- and what is not blank is judged as before there was 20
-pub exposed-as-before : ExposedAsBefore
+pub exposed_as_before : ExposedAsBefore
 unfolding frame_judged
-exposed-as-before F g e = rw e (ap (or_else g) (or_else-none (asked_judged F)))
+exposed_as_before F g e = rw e (ap (or_else g) (or_else_none (asked_judged F)))
 
 -- what the answer of the settings' check tells
 pub checked_refused : (j : Judged) (s : Settings) {r : Refusal} → checked j s ≡ Checks.Refused r → j ≡ Refused r
 checked_refused Admitted s h = let z : ◌≡◌ {A = ℕ} 0 1 = cc in absurd (omega arith)
 checked_refused (Refused x) s h = ap Refused (cc)
 
-pub checked-good : (j : Judged) (s : Settings) {t : Settings} → checked j s ≡ Checks.Good t → j ≡ Admitted
-checked-good Admitted s h = refl
-checked-good (Refused x) s h = let z : ◌≡◌ {A = ℕ} 0 1 = cc in absurd (omega arith)
+pub checked_good : (j : Judged) (s : Settings) {t : Settings} → checked j s ≡ Checks.Good t → j ≡ Admitted
+checked_good Admitted s h = refl
+checked_good (Refused x) s h = let z : ◌≡◌ {A = ℕ} 0 1 = cc in absurd (omega arith)
 
 -- the test of the values under settings that were checked
-pub blank-told : (F : Frame) {s : Settings} {b : Bool} → settings_of F.asked ≡ Checks.Good s
+pub blank_told : (F : Frame) {s : Settings} {b : Bool} → settings_of F.asked ≡ Checks.Good s
     → ((N : ℕ) → 1 ≤ N → N < 128 → b ≡ blank_values N s.factor F.values) → is_blank F ≡ b
-blank-told F {s} {b} e told =
-    let good = good-settings F.asked s e in
+blank_told F {s} {b} e told =
+    let good = good_settings F.asked s e in
     let bits : s.channel ≡ F.asked.channel = ap (λ (t : Settings). t.channel) good.0 in
     let N : ℕ = largest F.asked.channel in
     ap (λ (t : Settings). blank_values N t.factor F.values) (sym good.0)
-    ∙ sym (told N (largest-some F.asked.channel (omega (arith, good.1.channel))) (omega (arith, largest-within F.asked.channel (omega (arith, good.1.channel)))))
+    ∙ sym (told N (largest_some F.asked.channel (omega (arith, good.1.channel))) (omega (arith, largest_within F.asked.channel (omega (arith, good.1.channel)))))
 
 -- what memory that is long enough has
-pub enough-told : (n E : ℕ) (m : Room) → enough n E m ≡ true → (n ≤ m.levels) × (E ≤ m.variable_messages) × (E ≤ m.check_messages) × (4 * n ≤ m.sums) × (n ≤ m.bits)
-enough-told n E m h =
+pub enough_told : (n E : ℕ) (m : Room) → enough n E m ≡ true → (n ≤ m.levels) × (E ≤ m.variable_messages) × (E ≤ m.check_messages) × (4 * n ≤ m.sums) × (n ≤ m.bits)
+enough_told n E m h =
     let h₁ = and_right (leb n m.levels) _ h in
     let h₂ = and_right (leb E m.variable_messages) _ h₁ in
     let h₃ = and_right (leb E m.check_messages) _ h₂ in (
@@ -128,11 +128,11 @@ enough-told n E m h =
 
 -- ---- what an accepted frame tells
 
-pub asked-told : (F : Frame) → asked_judged F ≡ Admitted → (length F.values / 4 ≡ F.variables) × (settings_judged F.asked ≡ Admitted) × (values_judged F.values ≡ Admitted)
-asked-told F h = (
-  eqb-true count F.variables (unless-true (eqb count F.variables) (Length count) (or_else-left counted others h)),
-  or_else-left s v (or_else-right counted others h),
-  or_else-right s v (or_else-right counted others h),
+pub asked_told : (F : Frame) → asked_judged F ≡ Admitted → (length F.values / 4 ≡ F.variables) × (settings_judged F.asked ≡ Admitted) × (values_judged F.values ≡ Admitted)
+asked_told F h = (
+  eqb-true count F.variables (unless_true (eqb count F.variables) (Length count) (or_else_left counted others h)),
+  or_else_left s v (or_else_right counted others h),
+  or_else_right s v (or_else_right counted others h),
 )
   where
     count : ℕ
@@ -150,18 +150,18 @@ asked-told F h = (
     others : Judged
     others = or_else s v
 
-pub limit-small : (F : Frame) → settings_judged F.asked ≡ Admitted → F.asked.limit ≤ 255
+pub limit_small : (F : Frame) → settings_judged F.asked ≡ Admitted → F.asked.limit ≤ 255
 unfolding settings_of
-limit-small F h = (good-settings F.asked (settings F.asked) (ap (λ j. checked j (settings F.asked)) h)).1.limit
+limit_small F h = (good_settings F.asked (settings F.asked) (ap (λ j. checked j (settings F.asked)) h)).1.limit
 
-pub memory-told : (F : Frame) (g : Judged) (m : Room) → decode_judged F g m ≡ Admitted → (frame_judged F g ≡ Admitted) × (enough F.variables (graph F).entries m ≡ true)
+pub memory_told : (F : Frame) (g : Judged) (m : Room) → decode_judged F g m ≡ Admitted → (frame_judged F g ≡ Admitted) × (enough F.variables (graph F).entries m ≡ true)
 unfolding decode_judged
-memory-told F g m h =
+memory_told F g m h =
     let room = unless (enough F.variables (graph F).entries m) Buffer in (
-      or_else-left (frame_judged F g) room h,
-      unless-true (enough F.variables (graph F).entries m) Buffer (or_else-right (frame_judged F g) room h),
+      or_else_left (frame_judged F g) room h,
+      unless_true (enough F.variables (graph F).entries m) Buffer (or_else_right (frame_judged F g) room h),
     )
 
-pub checked-same : (j : Judged) (s : Settings) {t : Settings} → checked j s ≡ Checks.Good t → s ≡ t
-checked-same Admitted s h = cc
-checked-same (Refused x) s h = let z : ◌≡◌ {A = ℕ} 0 1 = cc in absurd (omega arith)
+pub checked_same : (j : Judged) (s : Settings) {t : Settings} → checked j s ≡ Checks.Good t → s ≡ t
+checked_same Admitted s h = cc
+checked_same (Refused x) s h = let z : ◌≡◌ {A = ℕ} 0 1 = cc in absurd (omega arith)

@@ -19,6 +19,6 @@ use Rattle.settings.specs.Trials as Levels
 use Rattle.decoding.specs.Decoding.{frame_judged}
 use Rattle.decoding.specs.Trials.{in_bytes, example, trials, answered, answer, passes, TrialsPass}
 
-pub trials-pass : TrialsPass
+pub trials_pass : TrialsPass
 unfolding xor mul lt of_int of_bits fold but count joined tabulate first byte blank variable_degree check_of odd_check unsatisfied first_message first_bit others from_check lifts lifted counted contribution odd extra channel_part share posterior outgoing_sum outgoing_magnitude outgoing from_variable unlifted sign_preserving begun sent_in sent iterated next state unsatisfied_in stop final report star fan Nodes.example Nodes.trials Nodes.passes each word bytes span_judged shape_judged graph_judged counts_judged starts_judged columns_judged rows_judged check_degrees_judged variable_degrees_judged positive wholes_below level_for Levels.trials Levels.passes frame_judged in_bytes example trials answered answer passes failures
-trials-pass = refl
+trials_pass = refl

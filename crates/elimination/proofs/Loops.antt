@@ -17,8 +17,8 @@ use Rattle.elimination.specs.Rows.{Added}
 
 -- ---- a bit of a byte
 
-pub power-byte : (k : ℕ) → k < 8 → 1 * 2 ^ k % 256 ≡ 2 ^ k
-power-byte k l = ap (λ (x : ℕ). x % 256) (omega arith) ∙ mod-eq_of_lt {n = 2 ^ k} {m = 256} (pow-lt {i = k} {j = 8} l)
+pub power_byte : (k : ℕ) → k < 8 → 1 * 2 ^ k % 256 ≡ 2 ^ k
+power_byte k l = ap (λ (x : ℕ). x % 256) (omega arith) ∙ mod-eq_of_lt {n = 2 ^ k} {m = 256} (pow-lt {i = k} {j = 8} l)
 
 -- ---- bytes added
 
@@ -43,29 +43,29 @@ added_more {row} {b} {t} {old} {now} f d = record {
         ∙ ap (λ (y : ℕ). bit_xor y (get_or row t 0)) (d.outside (b + t) (inr (omega arith))) ∙ ap (λ (k : ℕ). bit_xor (get_or old (b + k) 0) (get_or row k 0)) (sym p)
     go s u (no p) = get_or-set_other now (b + t) (b + s) x 0 (λ e. p (omega arith)) ∙ d.inside s (omega arith)
 
-pub added-all : {row : List ℕ} {b t w : ℕ} {old now : List ℕ} → t ≡ w → Added row b t old now → Added row b w old now
-added-all {row} {b} {t} {w} {old} {now} e d = subst (λ (t : ℕ). Added row b t old now) e d
+pub added_all : {row : List ℕ} {b t w : ℕ} {old now : List ℕ} → t ≡ w → Added row b t old now → Added row b w old now
+added_all {row} {b} {t} {w} {old} {now} e d = subst (λ (t : ℕ). Added row b t old now) e d
 
 -- ---- the highest variable
 
-pub top-here : (r : ℕ → Bool) (v : ℕ) → 0 < v → r (v - 1) ≡ true → top v r ≡ v
+pub top_here : (r : ℕ → Bool) (v : ℕ) → 0 < v → r (v - 1) ≡ true → top v r ≡ v
 unfolding top
-top-here r zero h e = refl
-top-here r (suc v) h e = ap (λ b. cond b (suc v) (top v r)) (simp unary_clauses at e)
+top_here r zero h e = refl
+top_here r (suc v) h e = ap (λ b. cond b (suc v) (top v r)) (simp unary_clauses at e)
 
 top_below : (r : ℕ → Bool) (v : ℕ) → 0 < v → r (v - 1) ≡ false → top v r ≡ top (v - 1) r
 unfolding top
 top_below r zero h e = refl
 top_below r (suc v) h e = ap (λ b. cond b (suc v) (top v r)) (simp unary_clauses at e) ∙ simp unary_clauses
 
-pub top-none : (r : ℕ → Bool) (v : ℕ) → v ≤ 0 → top v r ≡ 0
+pub top_none : (r : ℕ → Bool) (v : ℕ) → v ≤ 0 → top v r ≡ 0
 unfolding top
-top-none r zero h = refl
-top-none r (suc v) h = absurd (omega arith)
+top_none r zero h = refl
+top_none r (suc v) h = absurd (omega arith)
 
-top-skip : (r : ℕ → Bool) (k v : ℕ) → k ≤ v → ((u : ℕ) → k ≤ u → u < v → r u ≡ false) → top v r ≡ top k r
-top-skip r k zero h z = ap (λ (x : ℕ). top x r) (omega arith)
-top-skip r k (suc v) h z = go (ℕ_discrete k (suc v)) (top-skip r k v)
+top_skip : (r : ℕ → Bool) (k v : ℕ) → k ≤ v → ((u : ℕ) → k ≤ u → u < v → r u ≡ false) → top v r ≡ top k r
+top_skip r k zero h z = ap (λ (x : ℕ). top x r) (omega arith)
+top_skip r k (suc v) h z = go (ℕ_discrete k (suc v)) (top_skip r k v)
   where
     go : Dec (k ≡ suc v) → (k ≤ v → ((u : ℕ) → k ≤ u → u < v → r u ≡ false) → top v r ≡ top k r) → top (suc v) r ≡ top k r
     go (yes e) ih = ap (λ (x : ℕ). top x r) (sym e)
@@ -74,5 +74,5 @@ top-skip r k (suc v) h z = go (ℕ_discrete k (suc v)) (top-skip r k v)
         ∙ ih (omega arith) (λ u a b. z u a (omega arith))
 
 -- bit v - 1 is 0, and so are those from k on to before it
-pub top-past : (r : ℕ → Bool) (k v : ℕ) → 0 < v → k < v → r (v - 1) ≡ false → ((u : ℕ) → k ≤ u → u < v - 1 → r u ≡ false) → top v r ≡ top k r
-top-past r k v p l e z = top_below r v p e ∙ top-skip r k (v - 1) (omega arith) z
+pub top_past : (r : ℕ → Bool) (k v : ℕ) → 0 < v → k < v → r (v - 1) ≡ false → ((u : ℕ) → k ≤ u → u < v - 1 → r u ≡ false) → top v r ≡ top k r
+top_past r k v p l e z = top_below r v p e ∙ top_skip r k (v - 1) (omega arith) z

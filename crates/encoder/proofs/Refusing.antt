@@ -17,23 +17,23 @@ use Rattle.refusals.specs.declared.Judged.{Judged}
 use Rattle.refusals.specs.declared.Judged.TheVariants.{Admitted, Refused}
 use Rattle.refusals.specs.declared.Refusal.{Refusal}
 use Rattle.refusals.specs.declared.Refusal.TheVariants.{Buffer, Positions, NoCodeword, Bit}
-use Rattle.refusals.proofs.Judging.{refused-not, or_else-left, or_else-right, unless-true, all_true}
+use Rattle.refusals.proofs.Judging.{refused_not, or_else_left, or_else_right, unless_true, all_true}
 use Rattle.rules.proofs.Tests.{and_left, and_right}
-use Rattle.rules.proofs.Ranges.{length-tabulate, get_d_tabulate}
+use Rattle.rules.proofs.Ranges.{length_tabulate, get_d_tabulate}
 use Rattle.words.specs.Roles.{position_at, bit_of_byte}
 use Rattle.graphs.specs.Judging.{graph_judged_in}
 use Rattle.graphs.specs.Calls.{bytes_judged}
-use Rattle.graphs.proofs.Lending.{lent-admitted}
+use Rattle.graphs.proofs.Lending.{lent_admitted}
 use Rattle.codewords.specs.Encoding.{encoder_limits, given_of, position_fits, positions_judged, given_judged, input_judged, work_bytes, room_judged, encode_judged, worked_in, JudgesInput, Encodes}
 use Rattle.solving.specs.Solving.{Bits, Rising, Gives, Solved}
 
 -- ---- one position
 
-pub fit-out : {n x : ℕ} (p : ℕ → ℕ) (k : ℕ) → x ≡ p k → n ≤ x → false ≡ position_fits n p k
-fit-out {n} p k e l = sym (ap (λ b. b && (eqb k 0 || ltb (p (k - 1)) (p k))) (le-ltb (p k) n (omega arith)))
+pub fit_out : {n x : ℕ} (p : ℕ → ℕ) (k : ℕ) → x ≡ p k → n ≤ x → false ≡ position_fits n p k
+fit_out {n} p k e l = sym (ap (λ b. b && (eqb k 0 || ltb (p (k - 1)) (p k))) (le-ltb (p k) n (omega arith)))
 
-pub fit-first : {n x : ℕ} (p : ℕ → ℕ) (k : ℕ) → x ≡ p k → x < n → k ≡ 0 → true ≡ position_fits n p k
-fit-first {n} p k e l z = sym (ap₂ (λ a b. a && (b || ltb (p (k - 1)) (p k))) (lt-ltb (p k) n (omega arith)) (eq-eqb k 0 z))
+pub fit_first : {n x : ℕ} (p : ℕ → ℕ) (k : ℕ) → x ≡ p k → x < n → k ≡ 0 → true ≡ position_fits n p k
+fit_first {n} p k e l z = sym (ap₂ (λ a b. a && (b || ltb (p (k - 1)) (p k))) (lt-ltb (p k) n (omega arith)) (eq-eqb k 0 z))
 
 pub fit_next : {n x y : ℕ} (p : ℕ → ℕ) (k : ℕ) → x ≡ p k → y ≡ p (k - 1) → x < n → (k ≡ 0 → ⊥) → ltb y x ≡ position_fits n p k
 fit_next {n} p k e f l z =
@@ -51,18 +51,18 @@ module _ (n : ℕ) (positions given : List ℕ) (h : given_judged n positions gi
 
   rest : or_else (positions_judged n positions) (bytes_judged given) ≡ Admitted
   unfolding given_judged same
-  rest = or_else-right same (or_else (positions_judged n positions) (bytes_judged given)) h
+  rest = or_else_right same (or_else (positions_judged n positions) (bytes_judged given)) h
 
-  given-many : length positions / 2 ≡ length given
+  given_many : length positions / 2 ≡ length given
   unfolding given_judged same
-  given-many = eqb-true (length positions / 2) (length given) (unless-true (eqb (length positions / 2) (length given)) Positions (or_else-left same (or_else (positions_judged n positions) (bytes_judged given)) h))
+  given_many = eqb-true (length positions / 2) (length given) (unless_true (eqb (length positions / 2) (length given)) Positions (or_else_left same (or_else (positions_judged n positions) (bytes_judged given)) h))
 
   fits : (k : ℕ) → k < length positions / 2 → position_fits n (position_at positions) k ≡ true
   unfolding positions_judged
-  fits = all_true (position_fits n (position_at positions)) (λ k. Positions) (length positions / 2) (or_else-left (positions_judged n positions) (bytes_judged given) rest)
+  fits = all_true (position_fits n (position_at positions)) (λ k. Positions) (length positions / 2) (or_else_left (positions_judged n positions) (bytes_judged given) rest)
 
-  given-rising : Rising n (given_of positions given)
-  given-rising = record {
+  given_rising : Rising n (given_of positions given)
+  given_rising = record {
     within = λ k l. ltb-true (position_at positions k) n (and_left (ltb (position_at positions k) n) (eqb k 0 || ltb (position_at positions (k - 1)) (position_at positions k)) (fits k l));
     rising = λ k l. ltb-true (position_at positions k) (position_at positions (suc k)) (above k l);
   }
@@ -74,45 +74,45 @@ module _ (n : ℕ) (positions given : List ℕ) (h : given_judged n positions gi
           ∙ or_right (eqb (suc k) 0) (ltb (position_at positions (suc k - 1)) (position_at positions (suc k))) (ne_eqb (suc k) 0 (λ z. omega arith))
           (and_right (ltb (position_at positions (suc k)) n) (eqb (suc k) 0 || ltb (position_at positions (suc k - 1)) (position_at positions (suc k))) (fits (suc k) l))
 
-  given-bits : Bits given
+  given_bits : Bits given
   unfolding bytes_judged
-  given-bits k = at (dec_lt k (length given))
+  given_bits k = at (dec_lt k (length given))
     where
       at : Dec (k < length given) → get_or given k 0 ≤ 1
-      at (yes l) = leb-true (get_or given k 0) 1 (all_true (λ v. leb (get_or given v 0) 1) Bit (length given) (or_else-right (positions_judged n positions) (bytes_judged given) rest) k l)
+      at (yes l) = leb-true (get_or given k 0) 1 (all_true (λ v. leb (get_or given v 0) 1) Bit (length given) (or_else_right (positions_judged n positions) (bytes_judged given) rest) k l)
       at (no l) = omega (arith, get_or-eq_default given 0 {n = k} (omega arith))
 
-  given-gives : Gives n (given_of positions given) given
-  given-gives = record { rising = given-rising; many = omega (arith, given-many); bits = given-bits }
+  given_gives : Gives n (given_of positions given) given
+  given_gives = record { rising = given_rising; many = omega (arith, given_many); bits = given_bits }
 
 -- of the input
 pub record InputTold (G : Graph) (positions given : List ℕ) : Type 0 where
   pub graph : AdmittedWithin encoder_limits G
   pub gives : Gives G.variables (given_of positions given) given
 
-input-told : (G : Graph) (positions given : List ℕ) (d : ℕ) → input_judged G positions given d ≡ Admitted → InputTold G positions given
+input_told : (G : Graph) (positions given : List ℕ) (d : ℕ) → input_judged G positions given d ≡ Admitted → InputTold G positions given
 unfolding input_judged
-input-told G positions given d h =
+input_told G positions given d h =
     let g = graph_judged_in encoder_limits G d in
     let r = given_judged G.variables positions given in
-    record { graph = lent-admitted G d (or_else-left g r h); gives = given-gives G.variables positions given (or_else-right g r h) }
+    record { graph = lent_admitted G d (or_else_left g r h); gives = given_gives G.variables positions given (or_else_right g r h) }
 
-pub judged-input : {G : Graph} {positions given : List ℕ} {j : Judged} {d d' : List ℕ} → JudgesInput G positions given j d d' → j ≡ Admitted → InputTold G positions given
-judged-input {G} {positions} {given} {d = d} k e = input-told G positions given (length d) (sym k.answer ∙ e)
+pub judged_input : {G : Graph} {positions given : List ℕ} {j : Judged} {d d' : List ℕ} → JudgesInput G positions given j d d' → j ≡ Admitted → InputTold G positions given
+judged_input {G} {positions} {given} {d = d} k e = input_told G positions given (length d) (sym k.answer ∙ e)
 
 -- of the room
-pub room-told : (G : Graph) (c w : ℕ) → room_judged G c w ≡ Admitted → (G.variables ≤ c) × (work_bytes G ≤ w)
+pub room_told : (G : Graph) (c w : ℕ) → room_judged G c w ≡ Admitted → (G.variables ≤ c) × (work_bytes G ≤ w)
 unfolding room_judged
-room-told G c w h =
+room_told G c w h =
     let a = unless (leb G.variables c) Buffer in
     let b = unless (leb (work_bytes G) w) Buffer in (
-      leb-true G.variables c (unless-true (leb G.variables c) Buffer (or_else-left a b h)),
-      leb-true (work_bytes G) w (unless-true (leb (work_bytes G) w) Buffer (or_else-right a b h)),
+      leb-true G.variables c (unless_true (leb G.variables c) Buffer (or_else_left a b h)),
+      leb-true (work_bytes G) w (unless_true (leb (work_bytes G) w) Buffer (or_else_right a b h)),
     )
 
 -- the work bytes are few
-pub work-few : (n m : ℕ) → n ≤ encoder_limits.variables → m ≤ encoder_limits.checks → (n / 8 + 1) * m ≤ 131584
-work-few n m a b = omega (arith, mul-le-mul_left {m = m} {n = 512} (n / 8 + 1) b)
+pub work_few : (n m : ℕ) → n ≤ encoder_limits.variables → m ≤ encoder_limits.checks → (n / 8 + 1) * m ≤ 131584
+work_few n m a b = omega (arith, mul-le-mul_left {m = m} {n = 512} (n / 8 + 1) b)
 
 -- ---- 6
 
@@ -120,17 +120,17 @@ module _ (G : Graph) (c w : ℕ) {n m : ℕ} (en : G.variables ≡ n) (em : G.ch
   size : work_bytes G ≡ (n / 8 + 1) * m
   size = rw (en, em)
 
-  pub room-short : c < n → Refused Buffer ≡ room_judged G c w
+  pub room_short : c < n → Refused Buffer ≡ room_judged G c w
   unfolding room_judged
-  room-short l = sym (rw (lt-leb G.variables c (omega arith)))
+  room_short l = sym (rw (lt-leb G.variables c (omega arith)))
 
-  pub room-little : n ≤ c → w < (n / 8 + 1) * m → Refused Buffer ≡ room_judged G c w
+  pub room_little : n ≤ c → w < (n / 8 + 1) * m → Refused Buffer ≡ room_judged G c w
   unfolding room_judged
-  room-little l k = sym (rw (le-leb G.variables c (omega arith), lt-leb (work_bytes G) w (subst (λ (x : ℕ). w < x) (sym size) k)))
+  room_little l k = sym (rw (le-leb G.variables c (omega arith), lt-leb (work_bytes G) w (subst (λ (x : ℕ). w < x) (sym size) k)))
 
-  pub room-enough : n ≤ c → (n / 8 + 1) * m ≤ w → Admitted ≡ room_judged G c w
+  pub room_enough : n ≤ c → (n / 8 + 1) * m ≤ w → Admitted ≡ room_judged G c w
   unfolding room_judged
-  room-enough l k = sym (rw (le-leb G.variables c (omega arith), le-leb (work_bytes G) w (subst (λ (x : ℕ). x ≤ w) (sym size) k)))
+  room_enough l k = sym (rw (le-leb G.variables c (omega arith), le-leb (work_bytes G) w (subst (λ (x : ℕ). x ≤ w) (sym size) k)))
 
 -- ---- the call, where it ends
 
@@ -140,20 +140,20 @@ bit_byte (suc zero) h = refl
 bit_byte (suc (suc x)) h = absurd (omega arith)
 
 -- bytes that are bits
-bytes-are : (l : List ℕ) (n : ℕ) → length l ≡ n → Bits l → l ≡ tabulate (λ v. one (bit_of_byte l v)) n
-bytes-are l n e b =
-    ext_get_or 0 l (tabulate f n) (e ∙ sym (length-tabulate f n)) (λ i u. sym (get_d_tabulate f n i 0 (omega arith) ∙ bit_byte (get_or l i 0) (b i)))
+bytes_are : (l : List ℕ) (n : ℕ) → length l ≡ n → Bits l → l ≡ tabulate (λ v. one (bit_of_byte l v)) n
+bytes_are l n e b =
+    ext_get_or 0 l (tabulate f n) (e ∙ sym (length_tabulate f n)) (λ i u. sym (get_d_tabulate f n i 0 (omega arith) ∙ bit_byte (get_or l i 0) (b i)))
   where
     f : ℕ → ℕ
     f v = one (bit_of_byte l v)
 
 module _ {G : Graph} {positions given : List ℕ} {j : Judged} {d d' : List ℕ} (k : JudgesInput G positions given j d d') (c w : List ℕ) where
-  pub encodes-input : {q : Refusal} → j ≡ Refused q → Encodes G positions given (Refused q) d d' c c w w
+  pub encodes_input : {q : Refusal} → j ≡ Refused q → Encodes G positions given (Refused q) d d' c c w w
   unfolding encode_judged
-  encodes-input {q} e = record {
+  encodes_input {q} e = record {
     degrees = k.degrees;
     refused = λ s f. (sym found ∙ f, refl, refl);
-    accepted = λ f. absurd (refused-not (sym found ∙ f));
+    accepted = λ f. absurd (refused_not (sym found ∙ f));
   }
     where
       found : encode_judged G positions given (length d) (length c) (length w) ≡ Refused q
@@ -164,11 +164,11 @@ module _ {G : Graph} {positions given : List ℕ} {j : Judged} {d d' : List ℕ}
     unfolding encode_judged
     judged e = rw (sym k.answer ∙ good, e)
 
-    pub encodes-room : {q : Refusal} → room_judged G (length c) (length w) ≡ Refused q → Encodes G positions given (Refused q) d d' c c w w
-    encodes-room e = record {
+    pub encodes_room : {q : Refusal} → room_judged G (length c) (length w) ≡ Refused q → Encodes G positions given (Refused q) d d' c c w w
+    encodes_room e = record {
       degrees = k.degrees;
       refused = λ s f. (sym (judged e) ∙ f, refl, refl);
-      accepted = λ f. absurd (refused-not (sym (judged e) ∙ f));
+      accepted = λ f. absurd (refused_not (sym (judged e) ∙ f));
     }
 
     -- a solution in the first n bytes of the codeword and in the work bytes
@@ -179,29 +179,29 @@ module _ {G : Graph} {positions given : List ℕ} {j : Judged} {d d' : List ℕ}
       worked =
           at-work
           ∙ ap (λ (x : List ℕ). x ++ drop (work_bytes G) w)
-          (s.cleared ∙ ap (tabulate (λ k. 0)) (length-take-le (work_bytes G) w (room-told G (length c) (length w) room).1))
+          (s.cleared ∙ ap (tabulate (λ k. 0)) (length-take-le (work_bytes G) w (room_told G (length c) (length w) room).1))
 
-      pub encodes-found : r ≡ true → Encodes G positions given Admitted d d' c c' w w'
-      encodes-found t = record {
+      pub encodes_found : r ≡ true → Encodes G positions given Admitted d d' c c' w w'
+      encodes_found t = record {
         degrees = k.degrees;
-        refused = λ q f. absurd (refused-not (sym f ∙ judged room));
+        refused = λ q f. absurd (refused_not (sym f ∙ judged room));
         accepted = λ _. (
           record {
             codeword = bit_of_byte front;
             least = (s.found t).least;
-            written = at_front ∙ ap (λ (x : List ℕ). x ++ drop G.variables c) (bytes-are front G.variables long (s.found t).bits);
+            written = at_front ∙ ap (λ (x : List ℕ). x ++ drop G.variables c) (bytes_are front G.variables long (s.found t).bits);
           },
           worked,
         );
       }
         where
           long : length front ≡ G.variables
-          long = (s.found t).long ∙ length-take-le G.variables c (room-told G (length c) (length w) room).0
+          long = (s.found t).long ∙ length-take-le G.variables c (room_told G (length c) (length w) room).0
 
-      pub encodes-none : r ≡ false → Encodes G positions given (Refused NoCodeword) d d' c c' w w'
-      encodes-none t = record {
+      pub encodes_none : r ≡ false → Encodes G positions given (Refused NoCodeword) d d' c c' w w'
+      encodes_none t = record {
         degrees = k.degrees;
-        refused = λ q f. absurd (refused-not (sym f ∙ judged room));
+        refused = λ q f. absurd (refused_not (sym f ∙ judged room));
         accepted = λ _. (
           (
             refl,

@@ -12,68 +12,68 @@ use Rattle.refusals.specs.declared.Refusal.{Refusal}
 use Rattle.refusals.specs.declared.Refusal.TheVariants.{Range, Length}
 use Rattle.refusals.specs.declared.Judged.{Judged}
 use Rattle.refusals.specs.declared.Judged.TheVariants as Judgement
-use Rattle.refusals.proofs.Judging.{or_else-left, or_else-right, unless-true}
+use Rattle.refusals.proofs.Judging.{or_else_left, or_else_right, unless_true}
 use Rattle.words.specs.Roles.{bit_of_byte}
 use Rattle.graphs.specs.Judging.{graph_judged_in}
 use Rattle.graphs.specs.Degrees.{Checks}
 use Rattle.graphs.specs.Calls.{row_judgement, part_of, bytes_judged, bits_judged, JudgesRow, GivesRow, CountsOdd}
 use Rattle.graphs.specs.declared.OddChecks.TheVariants as Answer
-use Rattle.graphs.proofs.Lending.{lent-admitted}
+use Rattle.graphs.proofs.Lending.{lent_admitted}
 
 -- ---- row of a check
 
 module _ (G : Graph) (i : ℕ) {j : Judged} {old now : List ℕ} (k : Checks limits G j old now) where
-  pub row-graph : {r : Refusal} → j ≡ Judgement.Refused r → JudgesRow G i (Judgement.Refused r) old now
+  pub row_graph : {r : Refusal} → j ≡ Judgement.Refused r → JudgesRow G i (Judgement.Refused r) old now
   unfolding row_judgement
-  row-graph e = record { answer = sym (rw (sym k.answer ∙ e)); degrees = k.degrees }
+  row_graph e = record { answer = sym (rw (sym k.answer ∙ e)); degrees = k.degrees }
 
   module _ (e : j ≡ Judgement.Admitted) {m : ℕ} (q : m ≡ G.checks) where
     pub row_number : m ≤ i → JudgesRow G i (Judgement.Refused (Range i)) old now
     unfolding row_judgement
     row_number l = record { answer = sym (rw (sym k.answer ∙ e, le-ltb i G.checks (omega arith))); degrees = k.degrees }
 
-    pub row-good : i < m → JudgesRow G i Judgement.Admitted old now
+    pub row_good : i < m → JudgesRow G i Judgement.Admitted old now
     unfolding row_judgement
-    row-good l = record { answer = sym (rw (sym k.answer ∙ e, lt-ltb i G.checks (omega arith))); degrees = k.degrees }
+    row_good l = record { answer = sym (rw (sym k.answer ∙ e, lt-ltb i G.checks (omega arith))); degrees = k.degrees }
 
 module _ (G : Graph) (i : ℕ) {j : Judged} {old now : List ℕ} (k : JudgesRow G i j old now) where
-  pub row-empty : (columns : List ℕ) {r : Refusal} → j ≡ Judgement.Refused r → GivesRow G columns i [] old now
-  row-empty columns e = record { part = sym (rw (sym k.answer ∙ e)); degrees = k.degrees }
+  pub row_empty : (columns : List ℕ) {r : Refusal} → j ≡ Judgement.Refused r → GivesRow G columns i [] old now
+  row_empty columns e = record { part = sym (rw (sym k.answer ∙ e)); degrees = k.degrees }
 
   module _ (e : j ≡ Judgement.Admitted) where
-    pub row-part : (columns : List ℕ) {part : List ℕ} → part ≡ part_of Judgement.Admitted G columns i → GivesRow G columns i part old now
-    row-part columns q = record { part = q ∙ sym (rw (sym k.answer ∙ e)); degrees = k.degrees }
+    pub row_part : (columns : List ℕ) {part : List ℕ} → part ≡ part_of Judgement.Admitted G columns i → GivesRow G columns i part old now
+    row_part columns q = record { part = q ∙ sym (rw (sym k.answer ∙ e)); degrees = k.degrees }
 
-    pub row-admitted : Admitted G × (i < G.checks)
+    pub row_admitted : Admitted G × (i < G.checks)
     unfolding row_judgement
-    row-admitted =
+    row_admitted =
         let h = sym k.answer ∙ e in
         let g = graph_judged_in limits G (length old) in
         let number = unless (ltb i G.checks) (Range i) in (
-          lent-admitted G (length old) (or_else-left g number h),
-          ltb-true i G.checks (unless-true (ltb i G.checks) (Range i) (or_else-right g number h)),
+          lent_admitted G (length old) (or_else_left g number h),
+          ltb-true i G.checks (unless_true (ltb i G.checks) (Range i) (or_else_right g number h)),
         )
 
 -- ---- count odd checks
 
 module _ (G : Graph) (bits : List ℕ) {j : Judged} {old now : List ℕ} (k : Checks limits G j old now) where
-  pub odd-graph : {r : Refusal} → j ≡ Judgement.Refused r → CountsOdd G bits (Answer.Refused r) old now
+  pub odd_graph : {r : Refusal} → j ≡ Judgement.Refused r → CountsOdd G bits (Answer.Refused r) old now
   unfolding bits_judged
-  odd-graph e = record { answer = sym (rw (sym k.answer ∙ e)); degrees = k.degrees }
+  odd_graph e = record { answer = sym (rw (sym k.answer ∙ e)); degrees = k.degrees }
 
   module _ (e : j ≡ Judgement.Admitted) where
-    pub odd-length : (length bits ≡ G.variables → ⊥) → CountsOdd G bits (Answer.Refused (Length 0)) old now
+    pub odd_length : (length bits ≡ G.variables → ⊥) → CountsOdd G bits (Answer.Refused (Length 0)) old now
     unfolding bits_judged
-    odd-length n = record { answer = sym (rw (sym k.answer ∙ e, ne_eqb (length bits) G.variables n)); degrees = k.degrees }
+    odd_length n = record { answer = sym (rw (sym k.answer ∙ e, ne_eqb (length bits) G.variables n)); degrees = k.degrees }
 
     module _ (l : length bits ≡ G.variables) {b : Judged} (q : b ≡ bytes_judged bits) where
-      pub odd-bit : {r : Refusal} → b ≡ Judgement.Refused r → CountsOdd G bits (Answer.Refused r) old now
+      pub odd_bit : {r : Refusal} → b ≡ Judgement.Refused r → CountsOdd G bits (Answer.Refused r) old now
       unfolding bits_judged
-      odd-bit p = record { answer = sym (rw (sym k.answer ∙ e, eq-eqb (length bits) G.variables l, sym q ∙ p)); degrees = k.degrees }
+      odd_bit p = record { answer = sym (rw (sym k.answer ∙ e, eq-eqb (length bits) G.variables l, sym q ∙ p)); degrees = k.degrees }
 
-      pub odd-counted : {x : ℕ} → b ≡ Judgement.Admitted → x ≡ unsatisfied G (bit_of_byte bits) → CountsOdd G bits (Answer.Odd x) old now
+      pub odd_counted : {x : ℕ} → b ≡ Judgement.Admitted → x ≡ unsatisfied G (bit_of_byte bits) → CountsOdd G bits (Answer.Odd x) old now
       unfolding bits_judged
-      odd-counted p c = record {
+      odd_counted p c = record {
         answer = ap Answer.Odd c ∙ sym (rw (sym k.answer ∙ e, eq-eqb (length bits) G.variables l, sym q ∙ p));
         degrees = k.degrees;
       }

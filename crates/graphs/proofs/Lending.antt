@@ -12,17 +12,17 @@ use Rattle.refusals.specs.declared.Judged.{Judged}
 use Rattle.refusals.specs.declared.Judged.TheVariants.{Admitted, Refused}
 use Rattle.refusals.specs.declared.Refusal.{Refusal}
 use Rattle.refusals.specs.declared.Refusal.TheVariants.{Buffer}
-use Rattle.refusals.proofs.Judging.{or_else-left, or_else-right, or_else-both}
-use Rattle.rules.proofs.Ranges.{count-le}
+use Rattle.refusals.proofs.Judging.{or_else_left, or_else_right, or_else_both}
+use Rattle.rules.proofs.Ranges.{count_le}
 use Rattle.words.specs.Words.{table}
 use Rattle.words.specs.Roles.{degree_at}
 use Rattle.words.proofs.Words.{at_table}
 use Rattle.graphs.specs.Counting.{tally}
 use Rattle.graphs.specs.Variables.{variables_judged}
-use Rattle.graphs.proofs.Alike.{variables-alike}
+use Rattle.graphs.proofs.Alike.{variables_alike}
 use Rattle.graphs.specs.Judging.{counts_judged, starts_judged, columns_judged, rows_judged, check_degrees_judged, variable_degrees_judged, graph_judged, shape_judged, degrees_judged, countable, graph_judged_in}
 use Rattle.graphs.specs.Degrees.{degrees_in, Checks, Judges, LentAlike}
-use Rattle.graphs.proofs.Meaning.{graph-admitted}
+use Rattle.graphs.proofs.Meaning.{graph_admitted}
 
 -- nothing is refused before 6 and 5
 pub record Shaped (L : Limits) (G : Graph) : Type 0 where
@@ -32,65 +32,65 @@ pub record Shaped (L : Limits) (G : Graph) : Type 0 where
   pub rows : rows_judged G ≡ Admitted
 
 module _ {L : Limits} (G : Graph) where
-  pub shape-told : shape_judged L G ≡ Admitted → Shaped L G
+  pub shape_told : shape_judged L G ≡ Admitted → Shaped L G
   unfolding shape_judged
-  shape-told h =
-      let after-counts = or_else-right (counts_judged L G) _ h in
-      let after-starts = or_else-right (starts_judged G) _ after-counts in
+  shape_told h =
+      let after_counts = or_else_right (counts_judged L G) _ h in
+      let after_starts = or_else_right (starts_judged G) _ after_counts in
       record {
-        counts = or_else-left (counts_judged L G) _ h;
-        starts = or_else-left (starts_judged G) _ after-counts;
-        columns = or_else-left (columns_judged G) _ after-starts;
-        rows = or_else-right (columns_judged G) _ after-starts;
+        counts = or_else_left (counts_judged L G) _ h;
+        starts = or_else_left (starts_judged G) _ after_counts;
+        columns = or_else_left (columns_judged G) _ after_starts;
+        rows = or_else_right (columns_judged G) _ after_starts;
       }
 
   -- ---- 5, where it ends
 
   module _ {old now : List ℕ} (counted : now ≡ table 4 (variable_degree G) G.variables ++ drop (4 * G.variables) old) where
-    pub judges-refused : {r : Refusal} → check_degrees_judged L G ≡ Refused r → Judges L G (Refused r) old now
-    judges-refused h = record { answer = sym (rw h); degrees = counted }
+    pub judges_refused : {r : Refusal} → check_degrees_judged L G ≡ Refused r → Judges L G (Refused r) old now
+    judges_refused h = record { answer = sym (rw h); degrees = counted }
 
-    pub judges-last : {r : Judged} → check_degrees_judged L G ≡ Admitted → r ≡ variable_degrees_judged L G → Judges L G r old now
-    judges-last h q = record { answer = q ∙ sym (rw h); degrees = counted }
+    pub judges_last : {r : Judged} → check_degrees_judged L G ≡ Admitted → r ≡ variable_degrees_judged L G → Judges L G r old now
+    judges_last h q = record { answer = q ∙ sym (rw h); degrees = counted }
 
   -- ---- the check, where it ends
 
-  pub checks-refused : (old : List ℕ) {r : Refusal} → shape_judged L G ≡ Refused r → Checks L G (Refused r) old old
+  pub checks_refused : (old : List ℕ) {r : Refusal} → shape_judged L G ≡ Refused r → Checks L G (Refused r) old old
   unfolding countable graph_judged_in
-  checks-refused old h = record { answer = sym (rw h); degrees = sym (rw h) }
+  checks_refused old h = record { answer = sym (rw h); degrees = sym (rw h) }
 
   module _ (old : List ℕ) (shape : shape_judged L G ≡ Admitted) where
-    pub checks-short : length old < 4 * G.variables → Checks L G (Refused Buffer) old old
+    pub checks_short : length old < 4 * G.variables → Checks L G (Refused Buffer) old old
     unfolding countable graph_judged_in
-    checks-short l =
+    checks_short l =
         let short = lt-leb (4 * G.variables) (length old) l in
         record { answer = sym (rw (shape, short)); degrees = sym (rw (shape, short)) }
 
-    pub checks-judged : {r : Judged} {now : List ℕ} → 4 * G.variables ≤ length old → Judges L G r old now → Checks L G r old now
+    pub checks_judged : {r : Judged} {now : List ℕ} → 4 * G.variables ≤ length old → Judges L G r old now → Checks L G r old now
     unfolding countable graph_judged_in
-    checks-judged l j =
+    checks_judged l j =
         let enough = le-leb (4 * G.variables) (length old) l in
         record { answer = j.answer ∙ sym (rw (shape, enough)); degrees = j.degrees ∙ sym (rw (shape, enough)) }
 
 -- the degrees off the list
-pub degree-at : (G : Graph) (v : ℕ) (old : List ℕ) {now : List ℕ} → now ≡ table 4 (variable_degree G) G.variables ++ drop (4 * G.variables) old → v < G.variables
+pub degree_at_lem : (G : Graph) (v : ℕ) (old : List ℕ) {now : List ℕ} → now ≡ table 4 (variable_degree G) G.variables ++ drop (4 * G.variables) old → v < G.variables
     → G.entries < 2 ^ 32 → degree_at now v ≡ variable_degree G v
 unfolding variable_degree
-degree-at G v old e l h =
+degree_at_lem G v old e l h =
     ap (λ b. degree_at b v) e
-    ∙ at_table 4 (variable_degree G) G.variables (drop (4 * G.variables) old) v l (omega (arith, count-le (λ e. eqb (G.column e) v) 0 G.entries))
+    ∙ at_table 4 (variable_degree G) G.variables (drop (4 * G.variables) old) v l (omega (arith, count_le (λ e. eqb (G.column e) v) 0 G.entries))
 
 -- all entries are counted
-pub counted-all : (G : Graph) (old : List ℕ) {now : List ℕ} → now ≡ table 4 (tally G.column G.entries) G.variables ++ drop (4 * G.variables) old
+pub counted_all : (G : Graph) (old : List ℕ) {now : List ℕ} → now ≡ table 4 (tally G.column G.entries) G.variables ++ drop (4 * G.variables) old
     → now ≡ table 4 (variable_degree G) G.variables ++ drop (4 * G.variables) old
 unfolding variable_degree
-counted-all G old h = h
+counted_all G old h = h
 
 -- 5 for the variables, off the list
-pub variables-off : (L : Limits) (G : Graph) (old : List ℕ) {now : List ℕ} {m n : ℕ} → now ≡ table 4 (variable_degree G) G.variables ++ drop (4 * G.variables) old
+pub variables_off : (L : Limits) (G : Graph) (old : List ℕ) {now : List ℕ} {m n : ℕ} → now ≡ table 4 (variable_degree G) G.variables ++ drop (4 * G.variables) old
     → G.entries < 2 ^ 32 → m ≡ G.checks → n ≡ G.variables → variables_judged L m (degree_at now) n ≡ variable_degrees_judged L G
 unfolding variable_degrees_judged
-variables-off L G old e h p q = variables-alike L p q (λ v l. degree-at G v old e (omega (arith, q)) h)
+variables_off L G old e h p q = variables_alike L p q (λ v l. degree_at_lem G v old e (omega (arith, q)) h)
 
 -- ---- beside the five alone
 
@@ -103,13 +103,13 @@ unfolding graph_judged countable graph_judged_in
 lent_alike L G d l = rw (le-leb (4 * G.variables) d l) (none_between (shape_judged L G) (degrees_judged L G))
 
 -- refused by none: the graph is admitted
-pub lent-admitted : {L : Limits} (G : Graph) (d : ℕ) → graph_judged_in L G d ≡ Admitted → AdmittedWithin L G
+pub lent_admitted : {L : Limits} (G : Graph) (d : ℕ) → graph_judged_in L G d ≡ Admitted → AdmittedWithin L G
 unfolding graph_judged countable graph_judged_in
-lent-admitted {L} G d h =
-    graph-admitted G (or_else-both (or_else-left (shape_judged L G) _ (or_else-left (countable L G d) _ h)) (or_else-right (countable L G d) _ h))
+lent_admitted {L} G d h =
+    graph_admitted G (or_else_both (or_else_left (shape_judged L G) _ (or_else_left (countable L G d) _ h)) (or_else_right (countable L G d) _ h))
 
 -- .. and the list holds the degrees
-pub lent-counted : (L : Limits) (G : Graph) (d : ℕ) (old : List ℕ) {now : List ℕ} → graph_judged_in L G d ≡ Admitted → now ≡ degrees_in (countable L G d) G old
+pub lent_counted : (L : Limits) (G : Graph) (d : ℕ) (old : List ℕ) {now : List ℕ} → graph_judged_in L G d ≡ Admitted → now ≡ degrees_in (countable L G d) G old
     → now ≡ table 4 (variable_degree G) G.variables ++ drop (4 * G.variables) old
 unfolding graph_judged_in
-lent-counted L G d old h e = e ∙ rw (or_else-left (countable L G d) _ h)
+lent_counted L G d old h e = e ∙ rw (or_else_left (countable L G d) _ h)

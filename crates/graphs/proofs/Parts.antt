@@ -11,17 +11,17 @@ use Rattle.refusals.specs.Refusals.{unless, or_else}
 use Rattle.refusals.specs.declared.Judged.{Judged}
 use Rattle.refusals.specs.declared.Judged.TheVariants as Judgement
 use Rattle.refusals.specs.declared.Refusal.TheVariants.{Count, Range, Order, Degree, Start}
-use Rattle.refusals.proofs.Judging.{or_else-left, or_else-right, unless-true, each-is, each_all, all_true, true-all}
+use Rattle.refusals.proofs.Judging.{or_else_left, or_else_right, unless_true, each_is, each_all, all_true, true_all}
 use Rattle.rules.proofs.Tests.{and_left, and_right, and_both}
 use Rattle.graphs.specs.Judging.{start_is_fit, span_judged, counts_judged, starts_judged, columns_judged, rows_judged, check_degrees_judged, variable_degrees_judged}
 
 -- ---- tests
 
-pub between-told : (low x high : ℕ) → between low x high ≡ true → (low ≤ x) × (x ≤ high)
-between-told low x high h = (leb-true low x (and_left (leb low x) (leb x high) h), leb-true x high (and_right (leb low x) (leb x high) h))
+pub between_told : (low x high : ℕ) → between low x high ≡ true → (low ≤ x) × (x ≤ high)
+between_told low x high h = (leb-true low x (and_left (leb low x) (leb x high) h), leb-true x high (and_right (leb low x) (leb x high) h))
 
-pub between-true : {low x high : ℕ} → (low ≤ x) × (x ≤ high) → between low x high ≡ true
-between-true {low} {x} {high} h = and_both (le-leb low x h.0) (le-leb x high h.1)
+pub between_true : {low x high : ℕ} → (low ≤ x) × (x ≤ high) → between low x high ≡ true
+between_true {low} {x} {high} h = and_both (le-leb low x h.0) (le-leb x high h.1)
 
 -- a test that is asked at one index alone
 at_told : (i j : ℕ) (t : Bool) → not (eqb i j) || t ≡ true → i ≡ j → t ≡ true
@@ -42,22 +42,22 @@ pub record Counts (L : Limits) (G : Graph) : Type 0 where
   pub entries : G.entries ≤ L.entries
 
 module _ {L : Limits} (G : Graph) where
-  pub counts-told : counts_judged L G ≡ Judgement.Admitted → Counts L G
+  pub counts_told : counts_judged L G ≡ Judgement.Admitted → Counts L G
   unfolding counts_judged
-  counts-told h =
+  counts_told h =
       let n = between fewest_variables G.variables L.variables in
       let m = between fewest_checks G.checks L.checks in
       let E = leb G.entries L.entries in
-      let rest = or_else-right (unless n (Count 0)) (or_else (unless m (Count 0)) (unless E (Count 0))) h in
+      let rest = or_else_right (unless n (Count 0)) (or_else (unless m (Count 0)) (unless E (Count 0))) h in
       record {
-        variables = between-told fewest_variables G.variables L.variables (unless-true n (Count 0) (or_else-left (unless n (Count 0)) _ h));
-        checks = between-told fewest_checks G.checks L.checks (unless-true m (Count 0) (or_else-left (unless m (Count 0)) _ rest));
-        entries = leb-true G.entries L.entries (unless-true E (Count 0) (or_else-right (unless m (Count 0)) _ rest));
+        variables = between_told fewest_variables G.variables L.variables (unless_true n (Count 0) (or_else_left (unless n (Count 0)) _ h));
+        checks = between_told fewest_checks G.checks L.checks (unless_true m (Count 0) (or_else_left (unless m (Count 0)) _ rest));
+        entries = leb-true G.entries L.entries (unless_true E (Count 0) (or_else_right (unless m (Count 0)) _ rest));
       }
 
-  pub counts-admitted : Counts L G → counts_judged L G ≡ Judgement.Admitted
+  pub counts_admitted : Counts L G → counts_judged L G ≡ Judgement.Admitted
   unfolding counts_judged
-  counts-admitted k = rw (between-true k.variables, between-true k.checks, le-leb G.entries L.entries k.entries)
+  counts_admitted k = rw (between_true k.variables, between_true k.checks, le-leb G.entries L.entries k.entries)
 
 -- ---- the starts
 
@@ -83,8 +83,8 @@ fits_told i m E last s h =
       end = λ p. eqb-true s E (at_told i m (eqb s E) (and_right (leb last s) z rest) p);
     }
 
-fits-true : (i m E last s : ℕ) → Fits i m E last s → start_is_fit i m E last s ≡ true
-fits-true i m E last s f =
+fits_true : (i m E last s : ℕ) → Fits i m E last s → start_is_fit i m E last s ≡ true
+fits_true i m E last s f =
     and_both (at_true i 0 (eqb s 0) (λ p. eq-eqb s 0 (f.front p)))
     (and_both (le-leb last s f.above) (at_true i m (eqb s E) (λ p. eq-eqb s E (f.end p))))
 
@@ -99,18 +99,18 @@ module _ (G : Graph) where
       fits_told i G.checks G.entries (G.start (i - 1)) (G.start i)
       (all_true (test_of_start G) (λ i. Start i) (suc G.checks) h i l)
 
-  pub starts-told : starts_judged G ≡ Judgement.Admitted → Starts G
-  starts-told h = record {
+  pub starts_told : starts_judged G ≡ Judgement.Admitted → Starts G
+  starts_told h = record {
     begins = (start_fits h 0 (omega arith)).front refl;
     ends = (start_fits h G.checks (omega arith)).end refl;
     rises = λ i l. simp unary_clauses at (start_fits h (suc i) (omega arith)).above;
   }
 
-  pub starts-admitted : Starts G → starts_judged G ≡ Judgement.Admitted
+  pub starts_admitted : Starts G → starts_judged G ≡ Judgement.Admitted
   unfolding starts_judged
-  starts-admitted s =
-      true-all (test_of_start G) (λ i. Start i) (suc G.checks)
-      (λ i l. fits-true i G.checks G.entries (G.start (i - 1)) (G.start i) (record {
+  starts_admitted s =
+      true_all (test_of_start G) (λ i. Start i) (suc G.checks)
+      (λ i l. fits_true i G.checks G.entries (G.start (i - 1)) (G.start i) (record {
         front = λ p. ap G.start p ∙ s.begins;
         above = above i l;
         end = λ p. ap G.start p ∙ s.ends;
@@ -121,45 +121,45 @@ module _ (G : Graph) where
       above (suc i) l = simp unary_clauses (s.rises i (omega arith))
 
   -- no start is above E
-  start-down : Starts G → (k i : ℕ) → i + k ≡ G.checks → G.start i ≤ G.entries
-  start-down s zero i e = let p : G.start i ≡ G.start G.checks = ap G.start (omega arith) in omega (arith, s.ends)
-  start-down s (suc k) i e = omega (arith, start-down s k (suc i) (omega arith), s.rises i (omega arith))
+  start_down : Starts G → (k i : ℕ) → i + k ≡ G.checks → G.start i ≤ G.entries
+  start_down s zero i e = let p : G.start i ≡ G.start G.checks = ap G.start (omega arith) in omega (arith, s.ends)
+  start_down s (suc k) i e = omega (arith, start_down s k (suc i) (omega arith), s.rises i (omega arith))
 
-  pub start-below : Starts G → (i : ℕ) → i ≤ G.checks → G.start i ≤ G.entries
-  start-below s i l = start-down s (G.checks - i) i (omega arith)
+  pub start_below : Starts G → (i : ℕ) → i ≤ G.checks → G.start i ≤ G.entries
+  start_below s i l = start_down s (G.checks - i) i (omega arith)
 
   -- where row i begins and ends, as read
   pub row_ends : Starts G → (i : ℕ) {a b : ℕ} → i < G.checks → a ≡ G.start i → b ≡ G.start (i + 1) → (a ≤ b) × (b ≤ G.entries)
   row_ends s i l p q =
       let r : G.start (i + 1) ≡ G.start (suc i) = ap G.start (add-one i) in
-      (omega (arith, s.rises i l), omega (arith, start-below s (suc i) (omega arith)))
+      (omega (arith, s.rises i l), omega (arith, start_below s (suc i) (omega arith)))
 
   -- ---- the columns and their order
 
-  pub columns-told : columns_judged G ≡ Judgement.Admitted → (e : ℕ) → e < G.entries → G.column e < G.variables
+  pub columns_told : columns_judged G ≡ Judgement.Admitted → (e : ℕ) → e < G.entries → G.column e < G.variables
   unfolding columns_judged
-  columns-told h e l =
+  columns_told h e l =
       ltb-true (G.column e) G.variables (all_true (λ e. ltb (G.column e) G.variables) (λ e. Range e) G.entries h e l)
 
-  pub columns-admitted : ((e : ℕ) → e < G.entries → G.column e < G.variables) → columns_judged G ≡ Judgement.Admitted
+  pub columns_admitted : ((e : ℕ) → e < G.entries → G.column e < G.variables) → columns_judged G ≡ Judgement.Admitted
   unfolding columns_judged
-  columns-admitted h =
-      true-all (λ e. ltb (G.column e) G.variables) (λ e. Range e) G.entries (λ e l. lt-ltb (G.column e) G.variables (h e l))
+  columns_admitted h =
+      true_all (λ e. ltb (G.column e) G.variables) (λ e. Range e) G.entries (λ e l. lt-ltb (G.column e) G.variables (h e l))
 
 module _ (column : ℕ → ℕ) (a b : ℕ) where
-  pub span-told : span_judged column a b ≡ Judgement.Admitted → (e : ℕ) → a ≤ e → suc e < b → column e < column (suc e)
+  pub span_told : span_judged column a b ≡ Judgement.Admitted → (e : ℕ) → a ≤ e → suc e < b → column e < column (suc e)
   unfolding span_judged
-  span-told h e l u =
+  span_told h e l u =
       let k = e - a in
       let test = all_true (λ k. ltb (column (a + k)) (column (a + k + 1))) (λ k. Order (a + k + 1)) (b - a - 1) h k (omega arith) in
       let p : column (a + k) ≡ column e = ap column (omega arith) in
       let q : column (a + k + 1) ≡ column (suc e) = ap column (omega arith) in
       omega (arith, ltb-true (column (a + k)) (column (a + k + 1)) test)
 
-  pub span-admitted : ((e : ℕ) → a ≤ e → suc e < b → column e < column (suc e)) → span_judged column a b ≡ Judgement.Admitted
+  pub span_admitted : ((e : ℕ) → a ≤ e → suc e < b → column e < column (suc e)) → span_judged column a b ≡ Judgement.Admitted
   unfolding span_judged
-  span-admitted h =
-      true-all (λ k. ltb (column (a + k)) (column (a + k + 1))) (λ k. Order (a + k + 1)) (b - a - 1)
+  span_admitted h =
+      true_all (λ k. ltb (column (a + k)) (column (a + k + 1))) (λ k. Order (a + k + 1)) (b - a - 1)
       (λ k l.
       let q : column (a + k + 1) ≡ column (suc (a + k)) = ap column (omega arith) in
       lt-ltb (column (a + k)) (column (a + k + 1)) (omega (arith, h (a + k) (omega arith) (omega arith))))
@@ -173,16 +173,16 @@ module _ (G : Graph) where
       → (i e : ℕ) → i < G.checks → G.start i ≤ e → suc e < G.start (suc i) → G.column e < G.column (suc e)
   unfolding rows_judged
   rows_told h i e l =
-      span-told G.column (G.start i) (G.start (suc i))
-      (each-is (row_judged G) G.checks h i l)
+      span_told G.column (G.start i) (G.start (suc i))
+      (each_is (row_judged G) G.checks h i l)
       e
 
-  pub rows-admitted : ((i e : ℕ) → i < G.checks → G.start i ≤ e → suc e < G.start (suc i) → G.column e < G.column (suc e))
+  pub rows_admitted : ((i e : ℕ) → i < G.checks → G.start i ≤ e → suc e < G.start (suc i) → G.column e < G.column (suc e))
       → rows_judged G ≡ Judgement.Admitted
   unfolding rows_judged
-  rows-admitted h =
+  rows_admitted h =
       each_all (row_judged G) G.checks
-      (λ i l. span-admitted G.column (G.start i) (G.start (suc i)) (λ e. h i e l))
+      (λ i l. span_admitted G.column (G.start i) (G.start (suc i)) (λ e. h i e l))
 
 -- ---- the degrees
 
@@ -194,32 +194,32 @@ abbrev pub variable_test : Limits → Graph → ℕ → Bool
 variable_test L G v = between least_variable_degree (variable_degree G v) L.variable_degree
 
 module _ (L : Limits) (G : Graph) where
-  pub check-degrees-told : check_degrees_judged L G ≡ Judgement.Admitted
+  pub check_degrees_told : check_degrees_judged L G ≡ Judgement.Admitted
       → (i : ℕ) → i < G.checks → (G.start i + least_check_degree ≤ G.start (suc i)) × (G.start (suc i) ≤ G.start i + L.check_degree)
   unfolding check_degrees_judged
-  check-degrees-told h i l =
-      let d = between-told least_check_degree (check_degree G i) L.check_degree (all_true (check_test L G) (λ i. Degree i) G.checks h i l) in
+  check_degrees_told h i l =
+      let d = between_told least_check_degree (check_degree G i) L.check_degree (all_true (check_test L G) (λ i. Degree i) G.checks h i l) in
       (omega (arith, d.0), omega (arith, d.1))
 
-  pub check-degrees-admitted : ((i : ℕ) → i < G.checks → (G.start i + least_check_degree ≤ G.start (suc i)) × (G.start (suc i) ≤ G.start i + L.check_degree))
+  pub check_degrees_admitted : ((i : ℕ) → i < G.checks → (G.start i + least_check_degree ≤ G.start (suc i)) × (G.start (suc i) ≤ G.start i + L.check_degree))
       → check_degrees_judged L G ≡ Judgement.Admitted
   unfolding check_degrees_judged
-  check-degrees-admitted h =
-      true-all (check_test L G) (λ i. Degree i) G.checks
+  check_degrees_admitted h =
+      true_all (check_test L G) (λ i. Degree i) G.checks
       (λ i l.
-      between-true {low = least_check_degree} {x = check_degree G i} {high = L.check_degree}
+      between_true {low = least_check_degree} {x = check_degree G i} {high = L.check_degree}
       (omega (arith, (h i l).0), omega (arith, (h i l).1)))
 
-  pub variable-degrees-told : variable_degrees_judged L G ≡ Judgement.Admitted
+  pub variable_degrees_told : variable_degrees_judged L G ≡ Judgement.Admitted
       → (v : ℕ) → v < G.variables → (least_variable_degree ≤ variable_degree G v) × (variable_degree G v ≤ L.variable_degree)
   unfolding variable_degrees_judged
-  variable-degrees-told h v l =
-      between-told least_variable_degree (variable_degree G v) L.variable_degree
+  variable_degrees_told h v l =
+      between_told least_variable_degree (variable_degree G v) L.variable_degree
       (all_true (variable_test L G) (λ v. Degree (G.checks + v)) G.variables h v l)
 
-  pub variable-degrees-admitted : ((v : ℕ) → v < G.variables → (least_variable_degree ≤ variable_degree G v) × (variable_degree G v ≤ L.variable_degree))
+  pub variable_degrees_admitted : ((v : ℕ) → v < G.variables → (least_variable_degree ≤ variable_degree G v) × (variable_degree G v ≤ L.variable_degree))
       → variable_degrees_judged L G ≡ Judgement.Admitted
   unfolding variable_degrees_judged
-  variable-degrees-admitted h =
-      true-all (variable_test L G) (λ v. Degree (G.checks + v)) G.variables
-      (λ v l. between-true (h v l))
+  variable_degrees_admitted h =
+      true_all (variable_test L G) (λ v. Degree (G.checks + v)) G.variables
+      (λ v l. between_true (h v l))

@@ -17,14 +17,14 @@ use Rattle.interface.specs.Packing.{place_of}
 use Rattle.interface.specs.Encoding.{TellsEncodePlace}
 use Rattle.interface.specs.Theorems.{EncodePlaces}
 
-pub tells-encode-place : {G : Graph} {positions given : List ℕ} {j : Judged} {d d' : List ℕ} {r : ℕ} → JudgesInput G positions given j d d' → r ≡ place_of j
+pub tells_encode_place : {G : Graph} {positions given : List ℕ} {j : Judged} {d d' : List ℕ} {r : ℕ} → JudgesInput G positions given j d d' → r ≡ place_of j
     → TellsEncodePlace G positions given d d' r
-tells-encode-place k q = record { answer = q ∙ ap place_of k.answer; degrees = k.degrees }
+tells_encode_place k q = record { answer = q ∙ ap place_of k.answer; degrees = k.degrees }
 
 -- too little memory has place 0
-room-placeless : (G : Graph) (c w : ℕ) → place_of (room_judged G c w) ≡ 0
+room_placeless : (G : Graph) (c w : ℕ) → place_of (room_judged G c w) ≡ 0
 unfolding room_judged
-room-placeless G c w = go (leb G.variables c) (leb (work_bytes G) w)
+room_placeless G c w = go (leb G.variables c) (leb (work_bytes G) w)
   where
     go : (a b : Bool) → place_of (or_else (unless a Buffer) (unless b Buffer)) ≡ 0
     go false b = refl
@@ -32,18 +32,18 @@ room-placeless G c w = go (leb G.variables c) (leb (work_bytes G) w)
     go true true = refl
 
 -- so has no codeword
-answer-placeless : (j : Judged) (G : Graph) (g : Given) (c c' : List ℕ) → Answers j G g c c' → place_of j ≡ 0
-answer-placeless Admitted G g c c' a = refl
-answer-placeless (Refused q) G g c c' a = ap (λ (x : Refusal). (paper x).place) a.0
+answer_placeless : (j : Judged) (G : Graph) (g : Given) (c c' : List ℕ) → Answers j G g c c' → place_of j ≡ 0
+answer_placeless Admitted G g c c' a = refl
+answer_placeless (Refused q) G g c c' a = ap (λ (x : Refusal). (paper x).place) a.0
 
 in_order : (i r : Judged) → place_of r ≡ 0 → place_of (or_else i r) ≡ place_of i
 in_order Admitted r h = h
 in_order (Refused q) r h = refl
 
-pub encode-places : EncodePlaces
+pub encode_places : EncodePlaces
 unfolding encode_judged
-encode-places G positions given j d d' c c' w w' e =
-    sym (in_order i r (room-placeless G (length c) (length w))) ∙ go (or_else i r) refl
+encode_places G positions given j d d' c c' w w' e =
+    sym (in_order i r (room_placeless G (length c) (length w))) ∙ go (or_else i r) refl
   where
     i : Judged
     i = input_judged G positions given (length d)
@@ -53,4 +53,4 @@ encode-places G positions given j d d' c c' w w' e =
 
     go : (k : Judged) → encode_judged G positions given (length d) (length c) (length w) ≡ k → place_of k ≡ place_of j
     go (Refused q) h = sym (ap place_of (e.refused q h).0)
-    go Admitted h = sym (answer-placeless j G (given_of positions given) c c' (e.accepted h).0)
+    go Admitted h = sym (answer_placeless j G (given_of positions given) c c' (e.accepted h).0)

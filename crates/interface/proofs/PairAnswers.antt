@@ -18,17 +18,17 @@ use Rattle.refusals.specs.declared.Judged.TheVariants as Judgement
 use Rattle.refusals.specs.declared.Refusal.{Refusal}
 use Rattle.refusals.specs.declared.Refusal.TheVariants as Refusals
 use Rattle.rules.specs.declared.Report.{Report}
-use Rattle.refusals.proofs.Judging.{unless-true}
-use Rattle.rules.proofs.Stops.{run-stops}
+use Rattle.refusals.proofs.Judging.{unless_true}
+use Rattle.rules.proofs.Stops.{run_stops}
 use Rattle.words.specs.Words.{stored, bytes}
-use Rattle.words.proofs.Words.{length-bytes, length-stored, stored_is}
+use Rattle.words.proofs.Words.{length_bytes, length_stored, stored_is}
 use Rattle.graphs.specs.Judging.{graph_judged_in}
-use Rattle.graphs.proofs.Lending.{lent-admitted}
+use Rattle.graphs.proofs.Lending.{lent_admitted}
 use Rattle.settings.specs.declared.Scaling.{Scaling}
 use Rattle.decoding.specs.declared.Room.{Room}
 use Rattle.decoding.specs.declared.Decoded.TheVariants.{Ran}
 use Rattle.decoding.specs.Decoding.{Frame, Memory, room_of, graph, scheme, decode_finds, decoded}
-use Rattle.decoding.proofs.Accepting.{frame-passed, asked-told, memory-told}
+use Rattle.decoding.proofs.Accepting.{frame_passed, asked_told, memory_told}
 use Rattle.decoding.specs.declared.Party.{Party}
 use Rattle.decoding.specs.declared.Party.TheVariants.{First, Second, Pair}
 use Rattle.decoding.specs.declared.Paired.{Paired}
@@ -36,18 +36,18 @@ use Rattle.decoding.specs.declared.Paired.TheVariants as Answer
 use Rattle.decoding.specs.Pairing.Grants.{grant, half_up, half_down}
 use Rattle.decoding.specs.Pairing.Pairs.{Heads, alone, report_with, Found, admitted, refused, found_of, allowance_judged, graph_of_both, first_frame, second_frame, pair_finds, pair_answer, first_report, second_report, first_after, second_after, DecodesPair}
 use Rattle.decoding.proofs.Pairing.Finding.{all_told}
-use Rattle.decoding.proofs.Pairing.Promises.{ran-told, taken-small}
+use Rattle.decoding.proofs.Pairing.Promises.{ran_told, taken_small}
 use Rattle.interface.specs.Packing.{Small, pack_decoded, number_of, place_of, places_judged, decode_place, TellsPlace}
 use Rattle.interface.specs.Pairs.{party_number, pack_refused, pack_found, or_then, entry_finds, Reported, HostDecodesPair, allowance_for, refusal_for, Reportable, pack_paired, reports_of, ReportsPair, found_place, PairPlaces}
-use Rattle.interface.proofs.Smallness.{unsatisfied-small}
-use Rattle.interface.proofs.Places.{none-placed, number_small, places-told}
+use Rattle.interface.proofs.Smallness.{unsatisfied_small}
+use Rattle.interface.proofs.Places.{none_placed, number_small, places_told}
 
 -- ---- the list of reports
 
 -- eight bytes are four and four
-pub stored-both : (b : List ℕ) (k x : ℕ) → stored 4 (stored 4 b k (x % 4294967296)) (k + 4) (x / 4294967296) ≡ stored 8 b k x
+pub stored_both : (b : List ℕ) (k x : ℕ) → stored 4 (stored 4 b k (x % 4294967296)) (k + 4) (x / 4294967296) ≡ stored 8 b k x
 unfolding stored
-stored-both b k x = rw (first, second, third, fourth, rest, add-four k)
+stored_both b k x = rw (first, second, third, fourth, rest, add-four k)
   where
     first : x % 4294967296 % 256 ≡ x % 256
     first = omega arith
@@ -64,21 +64,21 @@ stored-both b k x = rw (first, second, third, fourth, rest, add-four k)
     rest : x / 4294967296 ≡ x / 256 / 256 / 256 / 256
     rest = omega arith
 
-pub two-numbers : (l : List ℕ) (x y : ℕ) → 16 ≤ length l → stored 8 (stored 8 l 0 x) 8 y ≡ bytes 8 x ++ (bytes 8 y ++ drop 16 l)
-two-numbers l x y h =
-    stored_is 8 (stored 8 l 0 x) 8 y (omega (arith, length-stored 8 l 0 x)) ∙ ap (λ b. take 8 b ++ (bytes 8 y ++ drop 16 b)) (stored_is 8 l 0 x (omega arith))
-    ∙ ap₂ (λ a b. a ++ (bytes 8 y ++ b)) (take_at (bytes 8 x) (drop 8 l) 8 (length-bytes 8 x)) (sym (drop-drop 8 8 (bytes 8 x ++ drop 8 l)) ∙ ap (drop 8) (drop_at (bytes 8 x) (drop 8 l) 8 (length-bytes 8 x)) ∙ drop-drop 8 8 l)
+pub two_numbers : (l : List ℕ) (x y : ℕ) → 16 ≤ length l → stored 8 (stored 8 l 0 x) 8 y ≡ bytes 8 x ++ (bytes 8 y ++ drop 16 l)
+two_numbers l x y h =
+    stored_is 8 (stored 8 l 0 x) 8 y (omega (arith, length_stored 8 l 0 x)) ∙ ap (λ b. take 8 b ++ (bytes 8 y ++ drop 16 b)) (stored_is 8 l 0 x (omega arith))
+    ∙ ap₂ (λ a b. a ++ (bytes 8 y ++ b)) (take_at (bytes 8 x) (drop 8 l) 8 (length_bytes 8 x)) (sym (drop-drop 8 8 (bytes 8 x ++ drop 8 l)) ∙ ap (drop 8) (drop_at (bytes 8 x) (drop 8 l) 8 (length_bytes 8 x)) ∙ drop-drop 8 8 l)
 
 -- ---- numbers that fit their places
 
-report-small : (F : Frame) (g : ℕ) → Graphs.Admitted (graph F) → g ≤ 255 → Small (Ran (report_with F g))
+report_small : (F : Frame) (g : ℕ) → Graphs.Admitted (graph F) → g ≤ 255 → Small (Ran (report_with F g))
 unfolding report
-report-small F g ok l = (omega (arith, (run-stops (graph F) (scheme F) g).within), unsatisfied-small F (stop (graph F) (scheme F) g) ok)
+report_small F g ok l = (omega (arith, (run_stops (graph F) (scheme F) g).within), unsatisfied_small F (stop (graph F) (scheme F) g) ok)
 
 both_small : (P : Heads) (M N : Memory) (d : List ℕ) {M' N' : Memory} {d' : List ℕ} {r r₂ : Report} → DecodesPair P M M' N N' d d' (Answer.Ran r r₂) → Small (Ran r) × Small (Ran r₂)
 both_small P M N d {r = r} {r₂ = r₂} w = (
-  subst (λ (x : Report). Small (Ran x)) (sym ran.1) (report-small (first_frame P) (grant (half_up T) T a b) ok (omega (arith, la))),
-  subst (λ (x : Report). Small (Ran x)) (sym ran.2) (report-small (second_frame P) (grant (half_down T) T b a) ok (omega (arith, lb))),
+  subst (λ (x : Report). Small (Ran x)) (sym ran.1) (report_small (first_frame P) (grant (half_up T) T a b) ok (omega (arith, la))),
+  subst (λ (x : Report). Small (Ran x)) (sym ran.2) (report_small (second_frame P) (grant (half_down T) T b a) ok (omega (arith, lb))),
 )
   where
     T : ℕ
@@ -91,39 +91,39 @@ both_small P M N d {r = r} {r₂ = r₂} w = (
     b = alone (second_frame P)
 
     ran : (pair_finds P (length d) (room_of M) (room_of N) ≡ admitted) × (r ≡ first_report P) × (r₂ ≡ second_report P)
-    ran = ran-told P (pair_finds P (length d) (room_of M) (room_of N)) w.answer
+    ran = ran_told P (pair_finds P (length d) (room_of M) (room_of N)) w.answer
 
     told : (decode_finds (first_frame P) (length d) (room_of M) ≡ Judgement.Admitted) × (decode_finds (second_frame P) (length d) (room_of N) ≡ Judgement.Admitted) × (allowance_judged P.allowance ≡ Judgement.Admitted)
     told = all_told P (length d) (room_of M) (room_of N) ran.0
 
     ok : Graphs.Admitted (graph_of_both P)
-    ok = let g = graph_judged_in limits (graph_of_both P) (length d) in lent-admitted (graph_of_both P) (length d) (frame-passed (first_frame P) g (memory-told (first_frame P) g (room_of M) told.0).0).0
+    ok = let g = graph_judged_in limits (graph_of_both P) (length d) in lent_admitted (graph_of_both P) (length d) (frame_passed (first_frame P) g (memory_told (first_frame P) g (room_of M) told.0).0).0
 
     la : a ≤ 255
-    la = taken-small (first_frame P) (length d) (room_of M) told.0
+    la = taken_small (first_frame P) (length d) (room_of M) told.0
 
     lb : b ≤ 255
-    lb = taken-small (second_frame P) (length d) (room_of N) told.1
+    lb = taken_small (second_frame P) (length d) (room_of N) told.1
 
 -- ---- the parts of the entry
 
-pub party-small : (p : Party) → party_number p ≤ 2
-party-small First = omega arith
-party-small Second = omega arith
-party-small Pair = omega arith
+pub party_small : (p : Party) → party_number p ≤ 2
+party_small First = omega arith
+party_small Second = omega arith
+party_small Pair = omega arith
 
-pub refusal-pair : (T : ℕ) (r : Refusal) {p : Party} {b : Bool} (t : Bool) → p ≡ Pair → b ≡ between 2 T 510 → b ≡ t → cond t Refusals.Buffer Refusals.Allowance ≡ refusal_for T p r
-refusal-pair T r {p} t e f g = sym (ap (λ (p : Party). refusal_for T p r) e ∙ ap (λ b. cond b Refusals.Buffer Refusals.Allowance) (sym f ∙ g))
+pub refusal_pair : (T : ℕ) (r : Refusal) {p : Party} {b : Bool} (t : Bool) → p ≡ Pair → b ≡ between 2 T 510 → b ≡ t → cond t Refusals.Buffer Refusals.Allowance ≡ refusal_for T p r
+refusal_pair T r {p} t e f g = sym (ap (λ (p : Party). refusal_for T p r) e ∙ ap (λ b. cond b Refusals.Buffer Refusals.Allowance) (sym f ∙ g))
 
 -- what is reported of each answer of the library
-pub small-ran : {x : Paired} {k : ℕ} {r r₂ : Report} → x ≡ Answer.Ran r r₂ → Reportable x k → Small (Ran r) × Small (Ran r₂) × 16 ≤ k
-small-ran {k = k} e w = subst (λ (x : Paired). Reportable x k) e w
+pub small_ran : {x : Paired} {k : ℕ} {r r₂ : Report} → x ≡ Answer.Ran r r₂ → Reportable x k → Small (Ran r) × Small (Ran r₂) × 16 ≤ k
+small_ran {k = k} e w = subst (λ (x : Paired). Reportable x k) e w
 
-pub reported-refused : {T : ℕ} {x : Paired} {l : List ℕ} {p : Party} {r : Refusal} {k : ℕ} → x ≡ Answer.Refused p r → k ≡ pack_refused p (refusal_for T p r) → ReportsPair T x l l k
-reported-refused {T} {x} {l} e q = record { answer = q ∙ sym (ap (pack_paired T) e); reports = sym (ap (λ (x : Paired). reports_of x l) e) }
+pub reported_refused : {T : ℕ} {x : Paired} {l : List ℕ} {p : Party} {r : Refusal} {k : ℕ} → x ≡ Answer.Refused p r → k ≡ pack_refused p (refusal_for T p r) → ReportsPair T x l l k
+reported_refused {T} {x} {l} e q = record { answer = q ∙ sym (ap (pack_paired T) e); reports = sym (ap (λ (x : Paired). reports_of x l) e) }
 
-pub reported-ran : {T : ℕ} {x : Paired} {l l' : List ℕ} {r r₂ : Report} → x ≡ Answer.Ran r r₂ → l' ≡ bytes 8 (pack_decoded (Ran r)) ++ (bytes 8 (pack_decoded (Ran r₂)) ++ drop 16 l) → ReportsPair T x l l' 0
-reported-ran {T} {x} {l} e q = record { answer = sym (ap (pack_paired T) e); reports = q ∙ sym (ap (λ (x : Paired). reports_of x l) e) }
+pub reported_ran : {T : ℕ} {x : Paired} {l l' : List ℕ} {r r₂ : Report} → x ≡ Answer.Ran r r₂ → l' ≡ bytes 8 (pack_decoded (Ran r)) ++ (bytes 8 (pack_decoded (Ran r₂)) ++ drop 16 l) → ReportsPair T x l l' 0
+reported_ran {T} {x} {l} e q = record { answer = sym (ap (pack_paired T) e); reports = q ∙ sym (ap (λ (x : Paired). reports_of x l) e) }
 
 -- ---- the entry
 
@@ -139,29 +139,29 @@ module _ (P : Heads) (M N : Memory) (d l : List ℕ) where
   abbrev Q : Heads
   Q = with_allowance (allowance_for T (length l)) P
 
-  pub pair-reportable : {M' N' : Memory} {d' : List ℕ} (x : Paired) → DecodesPair Q M M' N N' d d' x → Reportable x (length l)
-  pair-reportable (Answer.Refused p r) w = omega arith
-  pair-reportable (Answer.Ran r r₂) w = (small.0, small.1, leb-true 16 (length l) (go (leb 16 (length l)) allowed))
+  pub pair_reportable : {M' N' : Memory} {d' : List ℕ} (x : Paired) → DecodesPair Q M M' N N' d d' x → Reportable x (length l)
+  pair_reportable (Answer.Refused p r) w = omega arith
+  pair_reportable (Answer.Ran r r₂) w = (small.0, small.1, leb-true 16 (length l) (go (leb 16 (length l)) allowed))
     where
       small : Small (Ran r) × Small (Ran r₂)
       small = both_small Q M N d w
 
       allowed : between 2 (allowance_for T (length l)) 510 ≡ true
-      allowed = unless-true (between 2 (allowance_for T (length l)) 510) Refusals.Allowance
-          (all_told Q (length d) (room_of M) (room_of N) (ran-told Q (pair_finds Q (length d) (room_of M) (room_of N)) w.answer).0).2
+      allowed = unless_true (between 2 (allowance_for T (length l)) 510) Refusals.Allowance
+          (all_told Q (length d) (room_of M) (room_of N) (ran_told Q (pair_finds Q (length d) (room_of M) (room_of N)) w.answer).0).2
 
       go : (b : Bool) → between 2 (cond b T 0) 510 ≡ true → b ≡ true
       go true e = refl
       go false e = e
 
-  pub entry-reported : {M' N' : Memory} {d' l' : List ℕ} {x : Paired} {r : ℕ} → DecodesPair Q M M' N N' d d' x → ReportsPair T x l l' r → HostDecodesPair P M M' N N' d d' l l' r
+  pub entry_reported : {M' N' : Memory} {d' l' : List ℕ} {x : Paired} {r : ℕ} → DecodesPair Q M M' N N' d d' x → ReportsPair T x l l' r → HostDecodesPair P M M' N N' d d' l l' r
   unfolding pair_finds entry_finds
-  entry-reported {M'} {N'} {d'} {l'} {x} {r} w q =
+  entry_reported {M'} {N'} {d'} {l'} {x} {r} w q =
       go (decode_finds (first_frame P) (length d) (room_of M)) (decode_finds (second_frame P) (length d) (room_of N)) (leb 16 (length l)) (between 2 (allowance_for T (length l)) 510) refl (between 2 T 510) refl
       w.answer w.first w.second
     where
-      with-list : Bool → Heads
-      with-list b = with_allowance (cond b T 0) P
+      with_list : Bool → Heads
+      with_list b = with_allowance (cond b T 0) P
 
       -- what is found as it is asked, and what is to be found
       asked : Judged → Judged → Bool → Found
@@ -181,7 +181,7 @@ module _ (P : Heads) (M N : Memory) (d l : List ℕ) where
       own f e = answered e ∙ ap (λ t. pack_refused Pair (cond t Refusals.Buffer Refusals.Allowance)) f
 
       go : (j j' : Judged) (b u : Bool) → between 2 (cond b T 0) 510 ≡ u → (t : Bool) → between 2 T 510 ≡ t
-          → x ≡ pair_answer (with-list b) (asked j j' u) → M' ≡ first_after (with-list b) (asked j j' u) M → N' ≡ second_after (with-list b) (asked j j' u) N
+          → x ≡ pair_answer (with_list b) (asked j j' u) → M' ≡ first_after (with_list b) (asked j j' u) M → N' ≡ second_after (with_list b) (asked j j' u) N
           → Reported P (or_then (asked j j' t) (found_of Pair (unless b Refusals.Buffer) admitted)) M M' N N' d d' l l' r
       go (Judgement.Refused k) j' b u e t f a m n = record { answer = answered a; first = m; second = n; reports = listed a; degrees = w.degrees }
       go Judgement.Admitted (Judgement.Refused k) b u e t f a m n = record { answer = answered a; first = m; second = n; reports = listed a; degrees = w.degrees }
@@ -194,8 +194,8 @@ module _ (P : Heads) (M N : Memory) (d l : List ℕ) where
       go Judgement.Admitted Judgement.Admitted false false e false f a m n = record { answer = own f a; first = m; second = n; reports = listed a; degrees = w.degrees }
 
 -- under the allowance that was asked with, and the scalings of the kinds
-pub pair-asked : (P : Heads) {T T' : ℕ} {M M' N N' : Memory} {d d' : List ℕ} {x : Paired} → T ≡ T' → DecodesPair (with_allowance T P) M M' N N' d d' x → DecodesPair (with_allowance T' P) M M' N N' d d' x
-pair-asked P {M = M} {M' = M'} {N = N} {N' = N'} {d = d} {d' = d'} {x = x} e w = subst (λ (T : ℕ). DecodesPair (with_allowance T P) M M' N N' d d' x) e w
+pub pair_asked : (P : Heads) {T T' : ℕ} {M M' N N' : Memory} {d d' : List ℕ} {x : Paired} → T ≡ T' → DecodesPair (with_allowance T P) M M' N N' d d' x → DecodesPair (with_allowance T' P) M M' N N' d d' x
+pair_asked P {M = M} {M' = M'} {N = N} {N' = N'} {d = d} {d' = d'} {x = x} e w = subst (λ (T : ℕ). DecodesPair (with_allowance T P) M M' N N' d d' x) e w
 
 pub pair_under : (P : Scaling → Scaling → Heads) {s s' t t' : Scaling} {M M' N N' : Memory} {d d' l l' : List ℕ} {r : ℕ} → s ≡ s' → t ≡ t'
     → HostDecodesPair (P s t) M M' N N' d d' l l' r → HostDecodesPair (P s' t') M M' N N' d d' l l' r
@@ -204,48 +204,48 @@ pair_under P {s} {s'} {t} {t'} {M} {M'} {N} {N'} {d} {d'} {l} {l'} {r} e f w =
 
 -- ---- the companion
 
-pub place-as : {G : Graphs.Graph} {x y : ℕ} {old now : List ℕ} {r : ℕ} → x ≡ y → TellsPlace G x old now r → TellsPlace G y old now r
-place-as {G} {x} {y} {old} {now} {r} e w = subst (λ (k : ℕ). TellsPlace G k old now r) e w
+pub place_as : {G : Graphs.Graph} {x y : ℕ} {old now : List ℕ} {r : ℕ} → x ≡ y → TellsPlace G x old now r → TellsPlace G y old now r
+place_as {G} {x} {y} {old} {now} {r} e w = subst (λ (k : ℕ). TellsPlace G k old now r) e w
 
-number-below : (r : Refusal) → (paper r).number < 256
-number-below r = omega (arith, number_small r)
+number_below : (r : Refusal) → (paper r).number < 256
+number_below r = omega (arith, number_small r)
 
 head_of : (p : Party) (r : Refusal) → pack_refused p r / 256 % 256 ≡ party_number p
-head_of First r = omega (arith, number-below r)
-head_of Second r = omega (arith, number-below r)
-head_of Pair r = omega (arith, number-below r)
+head_of First r = omega (arith, number_below r)
+head_of Second r = omega (arith, number_below r)
+head_of Pair r = omega (arith, number_below r)
 
-number-of : (p : Party) (r : Refusal) → pack_refused p r % 256 ≡ (paper r).number
-number-of First r = omega (arith, number-below r)
-number-of Second r = omega (arith, number-below r)
-number-of Pair r = omega (arith, number-below r)
+number_of_lem : (p : Party) (r : Refusal) → pack_refused p r % 256 ≡ (paper r).number
+number_of_lem First r = omega (arith, number_below r)
+number_of_lem Second r = omega (arith, number_below r)
+number_of_lem Pair r = omega (arith, number_below r)
 
 module _ (F : Frame) (d : ℕ) (m : Room) where
   -- a refusal has its place
-  refused-placed : {r : Refusal} → decode_finds F d m ≡ Judgement.Refused r → decode_place (graph F) F.values d (paper r).number ≡ (paper r).place
-  refused-placed {r} h =
+  refused_placed : {r : Refusal} → decode_finds F d m ≡ Judgement.Refused r → decode_place (graph F) F.values d (paper r).number ≡ (paper r).place
+  refused_placed {r} h =
       ap (decode_place (graph F) F.values d) (sym (number_small r)) ∙ ap (λ j. decode_place (graph F) F.values d (number_of j % 256)) (sym h)
-      ∙ same ∙ places-told F d m ∙ ap place_of h
+      ∙ same ∙ places_told F d m ∙ ap place_of h
     where
       same : decode_place (graph F) F.values d (number_of (decode_finds F d m) % 256) ≡ decode_place (graph F) F.values d (pack_decoded (decoded F (decode_finds F d m)) % 256)
       same = rw h refl
 
   -- and where nothing is refused there is none, whatever number is asked for
-  none-refused : decode_finds F d m ≡ Judgement.Admitted → (x : ℕ) → decode_place (graph F) F.values d x ≡ 0
-  none-refused h x = rw none (none-placed (eqb 0 x))
+  none_refused : decode_finds F d m ≡ Judgement.Admitted → (x : ℕ) → decode_place (graph F) F.values d x ≡ 0
+  none_refused h x = rw none (none_placed (eqb 0 x))
     where
       g : Judged
       g = graph_judged_in limits (graph F) d
 
       none : places_judged (graph F) F.values d ≡ Judgement.Admitted
       none =
-          let passed = frame-passed F g (memory-told F g m h).0 in
-          let asked = asked-told F passed.1 in
+          let passed = frame_passed F g (memory_told F g m h).0 in
+          let asked = asked_told F passed.1 in
           rw (passed.0, eq-eqb (length F.values / 4) F.variables asked.0, asked.2) refl
 
-pub pair-places : PairPlaces
+pub pair_places : PairPlaces
 unfolding entry_finds pair_finds
-pair-places P d m m' k = go (decode_finds (first_frame P) d m) refl (decode_finds (second_frame P) d m') refl
+pair_places P d m m' k = go (decode_finds (first_frame P) d m) refl (decode_finds (second_frame P) d m') refl
   where
     placed : (x : ℕ) → ℕ
     placed x = decode_place (graph_of_both P) (cond (eqb (x / 256 % 256) 2) P.second.values P.first.values) d (x % 256)
@@ -255,22 +255,22 @@ pair-places P d m m' k = go (decode_finds (first_frame P) d m) refl (decode_find
 
     -- neither head's
     none : decode_finds (first_frame P) d m ≡ Judgement.Admitted → (r : Refusal) → (paper r).place ≡ 0 → placed (pack_refused Pair r) ≡ (paper r).place
-    none h r e = ap (λ y. decode_place (graph_of_both P) (cond (eqb y 2) P.second.values P.first.values) d (pack_refused Pair r % 256)) (head_of Pair r) ∙ none-refused (first_frame P) d m h (pack_refused Pair r % 256) ∙ sym e
+    none h r e = ap (λ y. decode_place (graph_of_both P) (cond (eqb y 2) P.second.values P.first.values) d (pack_refused Pair r % 256)) (head_of Pair r) ∙ none_refused (first_frame P) d m h (pack_refused Pair r % 256) ∙ sym e
 
     after : decode_finds (first_frame P) d m ≡ Judgement.Admitted → (f : Found) → ((p : Party) (r : Refusal) → f ≡ refused p r → (p ≡ Pair) × ((paper r).place ≡ 0)) → placed (pack_found f) ≡ found_place f
-    after h admitted q = none-refused (first_frame P) d m h 0
+    after h admitted q = none_refused (first_frame P) d m h 0
     after h (refused p r) q = let s = q p r refl in ap (λ (p : Party). placed (pack_refused p r)) s.0 ∙ none h r s.1
 
-    of-last : (a b : Bool) (p : Party) (r : Refusal) → or_then (found_of Pair (unless a Refusals.Allowance) admitted) (found_of Pair (unless b Refusals.Buffer) admitted) ≡ refused p r → (p ≡ Pair) × ((paper r).place ≡ 0)
-    of-last true true p r e = let z : ◌≡◌ {A = ℕ} 0 1 = cc in absurd (omega arith)
-    of-last true false p r e = let q : Refusals.Buffer ≡ r = cc in (cc, sym (ap (λ (x : Refusal). (paper x).place) q))
-    of-last false b p r e = let q : Refusals.Allowance ≡ r = cc in (cc, sym (ap (λ (x : Refusal). (paper x).place) q))
+    of_last : (a b : Bool) (p : Party) (r : Refusal) → or_then (found_of Pair (unless a Refusals.Allowance) admitted) (found_of Pair (unless b Refusals.Buffer) admitted) ≡ refused p r → (p ≡ Pair) × ((paper r).place ≡ 0)
+    of_last true true p r e = let z : ◌≡◌ {A = ℕ} 0 1 = cc in absurd (omega arith)
+    of_last true false p r e = let q : Refusals.Buffer ≡ r = cc in (cc, sym (ap (λ (x : Refusal). (paper x).place) q))
+    of_last false b p r e = let q : Refusals.Allowance ≡ r = cc in (cc, sym (ap (λ (x : Refusal). (paper x).place) q))
 
     go : (j : Judged) → decode_finds (first_frame P) d m ≡ j → (j' : Judged) → decode_finds (second_frame P) d m' ≡ j'
         → placed (pack_found (or_then (found_of First j (found_of Second j' (found_of Pair (allowance_judged P.allowance) admitted))) (found_of Pair (unless (leb 16 k) Refusals.Buffer) admitted)))
         ≡ found_place (or_then (found_of First j (found_of Second j' (found_of Pair (allowance_judged P.allowance) admitted))) (found_of Pair (unless (leb 16 k) Refusals.Buffer) admitted))
     go (Judgement.Refused r) h j' h' =
-        ap₂ (λ y n. decode_place (graph_of_both P) (cond (eqb y 2) P.second.values P.first.values) d n) (head_of First r) (number-of First r) ∙ refused-placed (first_frame P) d m h
+        ap₂ (λ y n. decode_place (graph_of_both P) (cond (eqb y 2) P.second.values P.first.values) d n) (head_of First r) (number_of_lem First r) ∙ refused_placed (first_frame P) d m h
     go Judgement.Admitted h (Judgement.Refused r) h' =
-        ap₂ (λ y n. decode_place (graph_of_both P) (cond (eqb y 2) P.second.values P.first.values) d n) (head_of Second r) (number-of Second r) ∙ refused-placed (second_frame P) d m' h'
-    go Judgement.Admitted h Judgement.Admitted h' = after h last (of-last (between 2 P.allowance 510) (leb 16 k))
+        ap₂ (λ y n. decode_place (graph_of_both P) (cond (eqb y 2) P.second.values P.first.values) d n) (head_of Second r) (number_of_lem Second r) ∙ refused_placed (second_frame P) d m' h'
+    go Judgement.Admitted h Judgement.Admitted h' = after h last (of_last (between 2 P.allowance 510) (leb 16 k))

@@ -16,10 +16,10 @@ use Rattle.refusals.specs.declared.Refusal.{Refusal}
 use Rattle.refusals.specs.declared.Refusal.TheVariants as R
 use Rattle.refusals.specs.declared.Judged.{Judged}
 use Rattle.refusals.specs.declared.Judged.TheVariants.{Admitted, Refused}
-use Rattle.refusals.proofs.Judging.{refused-not, or_else-left, or_else-none, each_from}
+use Rattle.refusals.proofs.Judging.{refused_not, or_else_left, or_else_none, each_from}
 use Rattle.words.specs.Roles.{value_at}
 use Rattle.graphs.specs.Judging.{graph_judged_in}
-use Rattle.graphs.proofs.Lending.{lent-admitted}
+use Rattle.graphs.proofs.Lending.{lent_admitted}
 use Rattle.settings.specs.declared.Parameters.{Parameters}
 use Rattle.settings.specs.declared.Scaling.TheVariants.{Plain}
 use Rattle.settings.specs.declared.Settings.{Settings}
@@ -30,7 +30,7 @@ use Rattle.settings.specs.Settings.{largest_lift, precisions_admitted, options_a
 use Rattle.settings.specs.Values.{values_judged}
 use Rattle.decoding.specs.declared.Room.{Room}
 use Rattle.decoding.specs.Decoding.{Frame, graph, enough, is_blank, frame_judged, decode_judged, decode_finds, decoded, Accepts}
-use Rattle.decoding.proofs.Accepting.{checked_refused, checked-good}
+use Rattle.decoding.proofs.Accepting.{checked_refused, checked_good}
 use Rattle.interface.specs.Packing.{pack_decoded, number_of, place_of, places_judged, decode_place, TellsPlace, asked_of}
 use Rattle.interface.specs.Theorems.{PlacesTold}
 
@@ -42,8 +42,8 @@ pub record Placeless (r : Refusal) : Type 0 where
 same : {r s : Refusal} → Refused r ≡ Refused s → r ≡ s
 same {r} {s} e = cc
 
-settings-placeless : (p : Parameters) (r : Refusal) → settings_judged p ≡ Refused r → Placeless r
-settings-placeless p r e =
+settings_placeless : (p : Parameters) (r : Refusal) → settings_judged p ≡ Refused r → Placeless r
+settings_placeless p r e =
     go (precisions_admitted p.channel p.message) (options_admitted p) (lifting_admitted p) (scaling_admitted p.scaling) (not (infinite_or_zero (factor_of p.scaling))) e
   where
     is : (s : Refusal) → Placeless s → Refused s ≡ Refused r → Placeless r
@@ -55,23 +55,23 @@ settings-placeless p r e =
     go true true false c d h = is R.Lifting (record { twelve = refl; place = refl }) h
     go true true true false d h = is R.Scaling (record { twelve = refl; place = refl }) h
     go true true true true false h = is R.Factor (record { twelve = refl; place = refl }) h
-    go true true true true true h = absurd (refused-not (sym h))
+    go true true true true true h = absurd (refused_not (sym h))
 
-values-twelve : (values : List ℕ) (r : Refusal) → values_judged values ≡ Refused r → (paper r).number ≡ 12
-values-twelve values r e =
+values_twelve : (values : List ℕ) (r : Refusal) → values_judged values ≡ Refused r → (paper r).number ≡ 12
+values_twelve values r e =
     each_from (λ s. (paper s).number ≡ 12) (λ v. unless (finite (value_at values v)) (R.Value v)) (length values / 4) (λ v s. one v s (finite (value_at values v))) r e
   where
     one : (v : ℕ) (s : Refusal) (b : Bool) → unless b (R.Value v) ≡ Refused s → (paper s).number ≡ 12
-    one v s true d = absurd (refused-not (sym d))
+    one v s true d = absurd (refused_not (sym d))
     one v s false d = ap (λ x. (paper x).number) (sym (same d))
 
 -- a judgement told by its own number, and by another's
 placed : (j : Judged) (n : ℕ) → n ≡ number_of j → cond (eqb (number_of j) n) (place_of j) 0 ≡ place_of j
 placed j n e = rw (eq-eqb (number_of j) n (sym e))
 
-pub none-placed : (t : Bool) → ◌≡◌ {A = ℕ} (cond t 0 0) 0
-none-placed true = refl
-none-placed false = refl
+pub none_placed : (t : Bool) → ◌≡◌ {A = ℕ} (cond t 0 0) 0
+none_placed true = refl
+none_placed false = refl
 
 -- the graph's g, the count's test t, the settings' s, the values' v, the exposure's test b and the memory's test e, in decode's order
 in_order : (k : ℕ) (g : Judged) (t : Bool) (s v : Judged) (b e : Bool) → ((r : Refusal) → s ≡ Refused r → Placeless r) → ((r : Refusal) → v ≡ Refused r → (paper r).number ≡ 12)
@@ -79,7 +79,7 @@ in_order : (k : ℕ) (g : Judged) (t : Bool) (s v : Judged) (b e : Bool) → ((r
     let i : Judged = or_else g (or_else (unless t (R.Length k)) v) in cond (eqb (number_of i) (number_of j)) (place_of i) 0 ≡ place_of j
 in_order k (Refused r) t s v b e p q = placed (Refused r) (paper r).number refl
 in_order k Admitted false s v b e p q = refl
-in_order k Admitted true (Refused r) Admitted b e p q = none-placed (eqb 0 (paper r).number) ∙ sym (p r refl).place
+in_order k Admitted true (Refused r) Admitted b e p q = none_placed (eqb 0 (paper r).number) ∙ sym (p r refl).place
 in_order k Admitted true (Refused r) (Refused x) b e p q = rw (q x refl, (p r refl).twelve) (sym (p r refl).place)
 in_order k Admitted true Admitted (Refused r) b e p q = placed (Refused r) (paper r).number refl
 in_order k Admitted true Admitted Admitted false e p q = refl
@@ -111,16 +111,16 @@ number_small R.Advance = refl
 number_small R.Allowance = refl
 
 -- the lowest byte of the answer is the number
-number-packed : (F : Frame) (j : Judged) → pack_decoded (decoded F j) % 256 ≡ number_of j
-number-packed F (Refused r) = number_small r
-number-packed F Admitted = omega arith
+number_packed : (F : Frame) (j : Judged) → pack_decoded (decoded F j) % 256 ≡ number_of j
+number_packed F (Refused r) = number_small r
+number_packed F Admitted = omega arith
 
-pub places-told : PlacesTold
+pub places_told : PlacesTold
 unfolding decode_judged frame_judged
-places-told F d m =
-    rw (number-packed F (decode_finds F d m))
+places_told F d m =
+    rw (number_packed F (decode_finds F d m))
     (in_order (length F.values / 4) (graph_judged_in limits (graph F) d) (eqb (length F.values / 4) F.variables) (settings_judged F.asked) (values_judged F.values)
-    (not (is_blank F)) (enough F.variables (graph F).entries m) (settings-placeless F.asked) (values-twelve F.values))
+    (not (is_blank F)) (enough F.variables (graph F).entries m) (settings_placeless F.asked) (values_twelve F.values))
 
 -- ---- accepted with settings that are in order, and enough memory
 
@@ -139,14 +139,14 @@ ample = record {
   bits = limits.variables;
 }
 
-ample-enough : (n E : ℕ) → n ≤ limits.variables → E ≤ limits.entries → enough n E ample ≡ true
-ample-enough n E p q = rw (le-leb n limits.variables p, le-leb E limits.entries q, le-leb (4 * n) (4 * limits.variables) (omega arith))
+ample_enough : (n E : ℕ) → n ≤ limits.variables → E ≤ limits.entries → enough n E ample ≡ true
+ample_enough n E p q = rw (le-leb n limits.variables p, le-leb E limits.entries q, le-leb (4 * n) (4 * limits.variables) (omega arith))
 
 -- then only a blank frame is refused beside what has a place
 module _ (F : Frame) (d : ℕ) (good : settings_judged F.asked ≡ Admitted) where
-  only-places : decode_finds F d ample ≡ or_else (places_judged (graph F) F.values d) (unless (not (is_blank F)) R.Blank)
+  only_places : decode_finds F d ample ≡ or_else (places_judged (graph F) F.values d) (unless (not (is_blank F)) R.Blank)
   unfolding decode_judged frame_judged
-  only-places = rw good (go (graph_judged_in limits (graph F) d) refl)
+  only_places = rw good (go (graph_judged_in limits (graph F) d) refl)
     where
       given : Judged
       given = or_else (unless (eqb (length F.values / 4) F.variables) (R.Length (length F.values / 4))) (values_judged F.values)
@@ -158,22 +158,22 @@ module _ (F : Frame) (d : ℕ) (good : settings_judged F.asked ≡ Admitted) whe
           → or_else (or_else g (or_else given exposed)) (unless (enough F.variables (graph F).entries ample) R.Buffer) ≡ or_else (or_else g given) exposed
       go (Refused r) h = refl
       go Admitted h =
-          let a = lent-admitted (graph F) d h in
-          rw (ample-enough F.variables (graph F).entries a.variables.1 a.entries) (or_else-none (or_else given exposed))
+          let a = lent_admitted (graph F) d h in
+          rw (ample_enough F.variables (graph F).entries a.variables.1 a.entries) (or_else_none (or_else given exposed))
 
 -- what is found of the places, by a refusal that may also be of a blank frame
 module _ (b : Bool) {r : Refusal} where
-  its-place : (f : Judged) → or_else f (unless b R.Blank) ≡ Refused r → cond (eqb (number_of f) (paper r).number) (place_of f) 0 ≡ (paper r).place
-  its-place (Refused x) h = rw (same h, eq-eqb (paper r).number (paper r).number refl)
-  its-place Admitted h = go b h
+  its_place : (f : Judged) → or_else f (unless b R.Blank) ≡ Refused r → cond (eqb (number_of f) (paper r).number) (place_of f) 0 ≡ (paper r).place
+  its_place (Refused x) h = rw (same h, eq-eqb (paper r).number (paper r).number refl)
+  its_place Admitted h = go b h
     where
       go : (t : Bool) → unless t R.Blank ≡ Refused r → cond (eqb 0 (paper r).number) 0 0 ≡ (paper r).place
-      go true q = absurd (refused-not (sym q))
+      go true q = absurd (refused_not (sym q))
       go false q = rw (← same q)
 
-  another-place : (f : Judged) {number : ℕ} → or_else f (unless b R.Blank) ≡ Refused r → ((paper r).number ≡ number → ⊥) → cond (eqb (number_of f) number) (place_of f) 0 ≡ 0
-  another-place (Refused x) {number} h n = rw (same h, ne_eqb (paper r).number number n)
-  another-place Admitted {number} h n = none-placed (eqb 0 number)
+  another_place : (f : Judged) {number : ℕ} → or_else f (unless b R.Blank) ≡ Refused r → ((paper r).number ≡ number → ⊥) → cond (eqb (number_of f) number) (place_of f) 0 ≡ 0
+  another_place (Refused x) {number} h n = rw (same h, ne_eqb (paper r).number number n)
+  another_place Admitted {number} h n = none_placed (eqb 0 number)
 
 -- what the companion promises, from what `accept` answers
 module _ (F : Frame) {a : Checked} {old now : List ℕ} (accepts : Accepts F ample a old now) (good : settings_judged F.asked ≡ Admitted) where
@@ -181,7 +181,7 @@ module _ (F : Frame) {a : Checked} {old now : List ℕ} (accepts : Accepts F amp
   found = places_judged (graph F) F.values (length old)
 
   finds : {j : Judged} → decode_finds F (length old) ample ≡ j → or_else found (unless (not (is_blank F)) R.Blank) ≡ j
-  finds h = sym (only-places F (length old) good) ∙ h
+  finds h = sym (only_places F (length old) good) ∙ h
 
   refused : {r : Refusal} → a ≡ Checks.Refused r → or_else found (unless (not (is_blank F)) R.Blank) ≡ Refused r
   refused e = finds (checked_refused (decode_finds F (length old) ample) (settings F.asked) (sym accepts.answer ∙ e))
@@ -189,19 +189,19 @@ module _ (F : Frame) {a : Checked} {old now : List ℕ} (accepts : Accepts F amp
   abbrev Tells : ℕ → ℕ → Type 0
   Tells number r = TellsPlace (graph F) (decode_place (graph F) F.values (length old) number) old now r
 
-  pub of-its-number : {r : Refusal} {number place : ℕ} → a ≡ Checks.Refused r → (paper r).number ≡ number → place ≡ (paper r).place → Tells number place
-  of-its-number {r} {number} e n q = record {
-    answer = q ∙ sym (its-place (not (is_blank F)) found (refused e)) ∙ ap (λ k. cond (eqb (number_of found) k) (place_of found) 0) n;
+  pub of_its_number : {r : Refusal} {number place : ℕ} → a ≡ Checks.Refused r → (paper r).number ≡ number → place ≡ (paper r).place → Tells number place
+  of_its_number {r} {number} e n q = record {
+    answer = q ∙ sym (its_place (not (is_blank F)) found (refused e)) ∙ ap (λ k. cond (eqb (number_of found) k) (place_of found) 0) n;
     degrees = accepts.degrees;
   }
 
-  pub of-another : {r : Refusal} {number : ℕ} → a ≡ Checks.Refused r → ((paper r).number ≡ number → ⊥) → Tells number 0
-  of-another e n = record { answer = sym (another-place (not (is_blank F)) found (refused e) n); degrees = accepts.degrees }
+  pub of_another : {r : Refusal} {number : ℕ} → a ≡ Checks.Refused r → ((paper r).number ≡ number → ⊥) → Tells number 0
+  of_another e n = record { answer = sym (another_place (not (is_blank F)) found (refused e) n); degrees = accepts.degrees }
 
   pub of_none : {s : Settings} (number : ℕ) → a ≡ Checks.Good s → Tells number 0
   of_none {s} number e = record {
     answer =
-        let none : found ≡ Admitted = or_else-left found _ (finds (checked-good (decode_finds F (length old) ample) (settings F.asked) (sym accepts.answer ∙ e))) in
-        rw none (sym (none-placed (eqb 0 number)));
+        let none : found ≡ Admitted = or_else_left found _ (finds (checked_good (decode_finds F (length old) ample) (settings F.asked) (sym accepts.answer ∙ e))) in
+        rw none (sym (none_placed (eqb 0 number)));
     degrees = accepts.degrees;
   }

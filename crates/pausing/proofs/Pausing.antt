@@ -19,22 +19,22 @@ use Rattle.refusals.specs.declared.Judged.{Judged}
 use Rattle.refusals.specs.declared.Judged.TheVariants as Judgement
 use Rattle.refusals.specs.declared.Refusal.{Refusal}
 use Rattle.refusals.specs.declared.Refusal.TheVariants as Refusals
-use Rattle.rules.proofs.Own.{level-bytes}
-use Rattle.refusals.proofs.Judging.{or_else-left, or_else-right, or_else-none, unless-true, all_true}
+use Rattle.rules.proofs.Own.{level_bytes}
+use Rattle.refusals.proofs.Judging.{or_else_left, or_else_right, or_else_none, unless_true, all_true}
 use Rattle.rules.proofs.Tests.{and_left, and_right}
-use Rattle.rules.proofs.Halting.{resumed-limit}
-use Rattle.rules.proofs.Same.{begun-same}
+use Rattle.rules.proofs.Halting.{resumed_limit}
+use Rattle.rules.proofs.Same.{begun_same}
 use Rattle.words.specs.Roles.{bit_of_byte}
 use Rattle.graphs.specs.Judging.{graph_judged_in}
 use Rattle.graphs.specs.Degrees as Lists
-use Rattle.graphs.proofs.Lending.{lent-admitted, lent-counted}
+use Rattle.graphs.proofs.Lending.{lent_admitted, lent_counted}
 use Rattle.settings.specs.declared.Settings.{Settings}
 use Rattle.settings.specs.declared.Checked.{Checked}
 use Rattle.settings.specs.declared.Checked.TheVariants as Checks
 use Rattle.settings.specs.Scaling.{positive}
 use Rattle.settings.specs.Settings.{settings, settings_judged, precisions_admitted, options_admitted, lifting_admitted, checked, settings_of}
 use Rattle.settings.specs.Theorems.{Admissible}
-use Rattle.settings.proofs.Accepted.{good-settings}
+use Rattle.settings.proofs.Accepted.{good_settings}
 use Rattle.nodes.specs.Memory.{level_in}
 use Rattle.steps.specs.Steps.{Holds, Degrees, offsets_in, lifting_in, rules_under, InBytes, Given, Resumes}
 use Rattle.steps.proofs.Running.{bits_of}
@@ -43,8 +43,8 @@ use Rattle.decoding.specs.Decoding.{Frame, Memory, room_of, enough, graph, decod
 use Rattle.decoding.specs.Decoding as Decoding
 use Rattle.decoding.specs.Frames.{memory}
 use Rattle.decoder.specs.Runs.{levels_under, Ready, BeginsFrom}
-use Rattle.decoding.proofs.Accepting.{checked_refused, checked-good, checked-same, enough-told}
-use Rattle.decoder.proofs.Beginning.{levels-told, counted-degrees}
+use Rattle.decoding.proofs.Accepting.{checked_refused, checked_good, checked_same, enough_told}
+use Rattle.decoder.proofs.Beginning.{levels_told, counted_degrees}
 use Rattle.pausing.specs.declared.Run.{Run}
 use Rattle.pausing.specs.declared.Unscaled.{Unscaled}
 use Rattle.pausing.specs.declared.Begun.TheVariants as Begins
@@ -54,18 +54,18 @@ use Rattle.pausing.specs.Exact.{asked_finds, Accepts, Long, BeginsExactly, Begin
 
 -- ---- memory
 
-pub long-told : (G : Graph) (M : Memory) → enough G.variables G.entries (room_of M) ≡ true → Long G M
-long-told G M h = let t = enough-told G.variables G.entries (room_of M) h in record { levels = t.0; variable_messages = t.1; check_messages = t.2; sums = t.3; bits = t.4 }
+pub long_told : (G : Graph) (M : Memory) → enough G.variables G.entries (room_of M) ≡ true → Long G M
+long_told G M h = let t = enough_told G.variables G.entries (room_of M) h in record { levels = t.0; variable_messages = t.1; check_messages = t.2; sums = t.3; bits = t.4 }
 
-pub begin-into : {s : Settings} {G : Graph} {values : List ℕ} {r : Run} {y q C S b : List ℕ} (M : Memory) → BeginsExactly s G values r y q C S b
+pub begin_into : {s : Settings} {G : Graph} {values : List ℕ} {r : Run} {y q C S b : List ℕ} (M : Memory) → BeginsExactly s G values r y q C S b
     → BeginsInto s G values r M
     (memory (y ++ drop G.variables M.levels) (q ++ drop G.entries M.variable_messages) (C ++ drop G.entries M.check_messages) (S ++ drop (4 * G.variables) M.sums) (b ++ drop G.variables M.bits))
-begin-into M w = record { run = w.run; memory = rw (w.levels, w.holds.variable_messages, w.holds.check_messages, w.holds.sums, w.holds.bits) }
+begin_into M w = record { run = w.run; memory = rw (w.levels, w.holds.variable_messages, w.holds.check_messages, w.holds.sums, w.holds.bits) }
 
-pub advance-into : {G : Graph} {R : Scheme} {limit k : ℕ} {σ : State} {r : Run} {q C S b : List ℕ} (M : Memory) → AdvancesExactly G R limit k σ r q C S b
+pub advance_into : {G : Graph} {R : Scheme} {limit k : ℕ} {σ : State} {r : Run} {q C S b : List ℕ} (M : Memory) → AdvancesExactly G R limit k σ r q C S b
     → AdvancesInto G R limit k σ r M
     (memory M.levels (q ++ drop G.entries M.variable_messages) (C ++ drop G.entries M.check_messages) (S ++ drop (4 * G.variables) M.sums) (b ++ drop G.variables M.bits))
-advance-into M w = record { run = w.run; memory = rw (w.holds.variable_messages, w.holds.check_messages, w.holds.sums, w.holds.bits) }
+advance_into M w = record { run = w.run; memory = rw (w.holds.variable_messages, w.holds.check_messages, w.holds.sums, w.holds.bits) }
 
 -- ---- the record
 
@@ -75,9 +75,9 @@ pub record_is : (G : Graph) (limit : ℕ) (σ : State) {q C S b : List ℕ} {t k
 record_is G limit σ h n e f = f ∙ ap₂ (record_at limit) n (e ∙ ap (unsatisfied G) (ap bit_of_byte h.bits ∙ bits_of σ.bits))
 
 -- the iterations up to the end are those that the advance is asked for
-pub advances-exactly : (G : Graph) (R : Scheme) (limit count t end : ℕ) {σ : State} {r₀ : ℕ} {q C S b : List ℕ} {odd : ℕ} {r : Run} → end ≡ min (t + count) limit → σ.iteration ≡ t → t < limit
+pub advances_exactly : (G : Graph) (R : Scheme) (limit count t end : ℕ) {σ : State} {r₀ : ℕ} {q C S b : List ℕ} {odd : ℕ} {r : Run} → end ≡ min (t + count) limit → σ.iteration ≡ t → t < limit
     → Resumes G R limit (end - t) σ r₀ q C S b → odd ≡ unsatisfied G (bit_of_byte b) → r ≡ record_at limit r₀ odd → AdvancesExactly G R limit count σ r q C S b
-advances-exactly G R limit count t end {σ} {r₀} {q} {C} {S} {b} {odd} {r} m n l w e f = record {
+advances_exactly G R limit count t end {σ} {r₀} {q} {C} {S} {b} {odd} {r} m n l w e f = record {
   run = record_is G limit (resumed G R limit count σ) holds (w.number ∙ ap (λ (τ : State). τ.iteration) same) e f;
   holds = holds;
 }
@@ -86,7 +86,7 @@ advances-exactly G R limit count t end {σ} {r₀} {q} {C} {S} {b} {odd} {r} m n
     go (yes u) = let k : end - t ≡ count = omega arith in ap (λ (k : ℕ). resumed G R limit k σ) k
     go (no u) =
         let k : end - t ≡ limit - σ.iteration = omega arith in
-        ap (λ (k : ℕ). resumed G R limit k σ) k ∙ sym (resumed-limit G R limit count σ (omega arith) (omega arith))
+        ap (λ (k : ℕ). resumed G R limit k σ) k ∙ sym (resumed_limit G R limit count σ (omega arith) (omega arith))
 
     same : resumed G R limit (end - t) σ ≡ resumed G R limit count σ
     same = go (dec_lt (t + count) limit)
@@ -95,10 +95,10 @@ advances-exactly G R limit count t end {σ} {r₀} {q} {C} {S} {b} {odd} {r} m n
     holds = subst (λ (τ : State). Holds G τ q C S b) same w.holds
 
 -- no state beyond the limit
-pub resumed-within : (G : Graph) (R : Scheme) (limit k : ℕ) (σ : State) → σ.iteration < limit → (resumed G R limit k σ).iteration ≤ limit
+pub resumed_within : (G : Graph) (R : Scheme) (limit k : ℕ) (σ : State) → σ.iteration < limit → (resumed G R limit k σ).iteration ≤ limit
 unfolding resumed onward_by onward ends next iterated
-resumed-within G R limit zero σ l = omega arith
-resumed-within G R limit (suc k) σ l = on k
+resumed_within G R limit zero σ l = omega arith
+resumed_within G R limit (suc k) σ l = on k
   where
     τ : ℕ → State
     τ k = onward_by G R limit k (next G R σ)
@@ -116,13 +116,13 @@ resumed-within G R limit (suc k) σ l = on k
 
 bytes_back : (q : List ℕ) → ((k : ℕ) → get_or q k 0 < 256) → map byte (map level_of q) ≡ q
 bytes_back [] h = refl
-bytes_back (b ∷ q) h = ap₂ ◌∷◌ (level-bytes.1 b (h 0)) (bytes_back q (λ k. h (suc k)))
+bytes_back (b ∷ q) h = ap₂ ◌∷◌ (level_bytes.1 b (h 0)) (bytes_back q (λ k. h (suc k)))
 
-take-byte : (n : ℕ) (q : List ℕ) → ((k : ℕ) → get_or q k 0 < 256) → (k : ℕ) → get_or (take n q) k 0 < 256
-take-byte zero q h k = omega arith
-take-byte (suc n) [] h k = omega arith
-take-byte (suc n) (b ∷ q) h zero = h 0
-take-byte (suc n) (b ∷ q) h (suc k) = take-byte n q (λ k. h (suc k)) k
+take_byte : (n : ℕ) (q : List ℕ) → ((k : ℕ) → get_or q k 0 < 256) → (k : ℕ) → get_or (take n q) k 0 < 256
+take_byte zero q h k = omega arith
+take_byte (suc n) [] h k = omega arith
+take_byte (suc n) (b ∷ q) h zero = h 0
+take_byte (suc n) (b ∷ q) h (suc k) = take_byte n q (λ k. h (suc k)) k
 
 take_at : (n : ℕ) (q : List ℕ) (k : ℕ) → k < n → get_or (take n q) k 0 ≡ get_or q k 0
 take_at zero q k l = absurd (omega arith)
@@ -131,46 +131,46 @@ take_at (suc n) (b ∷ q) zero l = refl
 take_at (suc n) (b ∷ q) (suc k) l = take_at n q k (omega arith)
 
 module _ (N E : ℕ) (q : List ℕ) (bytes : (k : ℕ) → get_or q k 0 < 256) (within : within_judged N q E ≡ Judgement.Admitted) where
-  handed-within : (e : ℕ) → (level_at (map level_of (take E q)) e).magnitude ≤ N
+  handed_within : (e : ℕ) → (level_at (map level_of (take E q)) e).magnitude ≤ N
   unfolding level_of within_judged
-  handed-within e = rw (get_or-map level_of (take E q) e 0) (go (dec_lt e E))
+  handed_within e = rw (get_or-map level_of (take E q) e 0) (go (dec_lt e E))
     where
       go : Dec (e < E) → (level_of (get_or (take E q) e 0)).magnitude ≤ N
       go (yes u) = rw (take_at E q e u) (leb-true (level_in q e).magnitude N (all_true (λ k. leb (level_in q k).magnitude N) (λ k. Refusals.Advance) E within e u))
-      go (no u) = rw (get_or-eq_default (take E q) 0 {n = e} (omega (arith, length-take E q))) (omega arith)
+      go (no u) = rw (get_or-eq_default (take E q) 0 {n = e} (omega (arith, length_take E q))) (omega arith)
         where
-          length-take : (n : ℕ) (l : List ℕ) → length (take n l) ≤ n
-          length-take zero l = omega arith
-          length-take (suc n) [] = omega arith
-          length-take (suc n) (x ∷ l) = omega (arith, length-take n l)
+          length_take : (n : ℕ) (l : List ℕ) → length (take n l) ≤ n
+          length_take zero l = omega arith
+          length_take (suc n) [] = omega arith
+          length_take (suc n) (x ∷ l) = omega (arith, length_take n l)
 
-  pub handed-in : InBytes N (map level_of (take E q)) (take E q)
-  handed-in = record { is = sym (bytes_back (take E q) (take-byte E q bytes)); within = handed-within }
+  pub handed_in : InBytes N (map level_of (take E q)) (take E q)
+  handed_in = record { is = sym (bytes_back (take E q) (take_byte E q bytes)); within = handed_within }
 
-pub given-handed : (N E : ℕ) (p : Run) (q C : List ℕ) → ((k : ℕ) → get_or q k 0 < 256) → ((k : ℕ) → get_or C k 0 < 256) → within_judged N q E ≡ Judgement.Admitted → within_judged N C E ≡ Judgement.Admitted
+pub given_handed : (N E : ℕ) (p : Run) (q C : List ℕ) → ((k : ℕ) → get_or q k 0 < 256) → ((k : ℕ) → get_or C k 0 < 256) → within_judged N q E ≡ Judgement.Admitted → within_judged N C E ≡ Judgement.Admitted
     → Given N (handed p (take E q) (take E C)) p.iterations (take E q) (take E C)
-given-handed N E p q C bq bC wq wC = record { number = refl; variable_messages = handed-in N E q bq wq; check_messages = handed-in N E C bC wC }
+given_handed N E p q C bq bC wq wC = record { number = refl; variable_messages = handed_in N E q bq wq; check_messages = handed_in N E C bC wC }
 
 -- ---- begin
 
 -- iteration 0 from the levels in bytes is that from the channel levels
-pub begins-exactly : {s : Settings} (G : Graph) (values : List ℕ) → Ready s G values → {y q C S b : List ℕ} → BeginsFrom s G values y q C S b → {k : ℕ} {r : Run}
+pub begins_exactly : {s : Settings} (G : Graph) (values : List ℕ) → Ready s G values → {y q C S b : List ℕ} → BeginsFrom s G values y q C S b → {k : ℕ} {r : Run}
     → k ≡ unsatisfied G (bit_of_byte b) → r ≡ record_at s.limit 0 k → BeginsExactly s G values r y q C S b
 unfolding begun
-begins-exactly {s} G values ready {y} {q} {C} {S} {b} w e f = record { run = record_is G s.limit (begun G (rules_under s G (levels_under s values))) h refl e f; levels = w.levels; holds = h }
+begins_exactly {s} G values ready {y} {q} {C} {S} {b} w e f = record { run = record_is G s.limit (begun G (rules_under s G (levels_under s values))) h refl e f; levels = w.levels; holds = h }
   where
     h : Holds G (begun G (rules_under s G (levels_under s values))) q C S b
-    h = subst (λ σ. Holds G σ q C S b) (begun-same G ready.admitted (largest s.message) (offsets_in s) (lifting_in s) (level_in y) (levels_under s values) (levels-told ready.settings G.variables values w.levels)) w.holds
+    h = subst (λ σ. Holds G σ q C S b) (begun_same G ready.admitted (largest s.message) (offsets_in s) (lifting_in s) (level_in y) (levels_under s values) (levels_told ready.settings G.variables values w.levels)) w.holds
 
 module _ (F : Frame) (M : Memory) {d d' : List ℕ} {a : Checked} (accepts : Decoding.Accepts F (room_of M) a d d') where
-  pub begins-refused : {r : Refusal} → a ≡ Checks.Refused r → Begins F M M d d' (Begins.Refused r)
-  begins-refused {r} e = record { answer = sym (ap (begun_answer F) h); memory = sym (ap (λ j. begun_memory F j M) h); degrees = accepts.degrees }
+  pub begins_refused : {r : Refusal} → a ≡ Checks.Refused r → Begins F M M d d' (Begins.Refused r)
+  begins_refused {r} e = record { answer = sym (ap (begun_answer F) h); memory = sym (ap (λ j. begun_memory F j M) h); degrees = accepts.degrees }
     where
       h : decode_finds F (length d) (room_of M) ≡ Judgement.Refused r
       h = checked_refused (decode_finds F (length d) (room_of M)) (settings F.asked) (sym accepts.answer ∙ e)
 
-  pub begins-at : {s : Settings} → a ≡ Checks.Good s → {M' : Memory} {r : Run} → BeginsInto s (graph F) F.values r M M' → Begins F M M' d d' (Begins.At r)
-  begins-at {s} e {M'} {r} w = record {
+  pub begins_at : {s : Settings} → a ≡ Checks.Good s → {M' : Memory} {r : Run} → BeginsInto s (graph F) F.values r M M' → Begins F M M' d d' (Begins.At r)
+  begins_at {s} e {M'} {r} w = record {
     answer = ap Begins.At run.run ∙ sym (ap (begun_answer F) h);
     memory = run.memory ∙ sym (ap (λ j. begun_memory F j M) h);
     degrees = accepts.degrees;
@@ -180,46 +180,46 @@ module _ (F : Frame) (M : Memory) {d d' : List ℕ} {a : Checked} (accepts : Dec
       told = sym accepts.answer ∙ e
 
       h : decode_finds F (length d) (room_of M) ≡ Judgement.Admitted
-      h = checked-good (decode_finds F (length d) (room_of M)) (settings F.asked) told
+      h = checked_good (decode_finds F (length d) (room_of M)) (settings F.asked) told
 
       run : BeginsInto (settings F.asked) (graph F) F.values r M M'
-      run = subst (λ t. BeginsInto t (graph F) F.values r M M') (sym (checked-same (decode_finds F (length d) (room_of M)) (settings F.asked) told)) w
+      run = subst (λ t. BeginsInto t (graph F) F.values r M M') (sym (checked_same (decode_finds F (length d) (room_of M)) (settings F.asked) told)) w
 
 -- ---- the refusals of an advance
 
 -- a gain of 1 is never refused
-pub plain-judged : (u : Unscaled) → settings_judged (scaled u) ≡ unscaled_judged u
+pub plain_judged : (u : Unscaled) → settings_judged (scaled u) ≡ unscaled_judged u
 unfolding positive of_int lt
-plain-judged u =
+plain_judged u =
     ap (λ j. or_else (unless (precisions_admitted u.channel u.message) Refusals.Precision) (or_else (unless (options_admitted (scaled u)) Refusals.Option) j))
-    (or_else-none (unless (lifting_admitted (scaled u)) Refusals.Lifting))
+    (or_else_none (unless (lifting_admitted (scaled u)) Refusals.Lifting))
 
 module _ (A : Asked) (m : Room) {g : Judged} {d d' : List ℕ} (checks : Lists.Checks limits (graph_asked A) g d d') where
-  accepts-as : {j : Judged} {a : Checked} → asked_finds A (length d) m ≡ j → a ≡ checked j (settings (scaled A.settings)) → Accepts A m a d d'
-  accepts-as h q = record { answer = q ∙ ap (λ j. checked j (settings (scaled A.settings))) (sym h); degrees = checks.degrees }
+  accepts_as : {j : Judged} {a : Checked} → asked_finds A (length d) m ≡ j → a ≡ checked j (settings (scaled A.settings)) → Accepts A m a d d'
+  accepts_as h q = record { answer = q ∙ ap (λ j. checked j (settings (scaled A.settings))) (sym h); degrees = checks.degrees }
 
-  pub graph-refused : {r : Refusal} → g ≡ Judgement.Refused r → Accepts A m (Checks.Refused r) d d'
-  graph-refused {r} e = accepts-as {j = Judgement.Refused r} (rw (sym checks.answer ∙ e) refl) refl
+  pub graph_refused : {r : Refusal} → g ≡ Judgement.Refused r → Accepts A m (Checks.Refused r) d d'
+  graph_refused {r} e = accepts_as {j = Judgement.Refused r} (rw (sym checks.answer ∙ e) refl) refl
 
   module _ (good : g ≡ Judgement.Admitted) where
-    pub graph-good : Admitted (graph_asked A)
-    graph-good = lent-admitted (graph_asked A) (length d) (sym checks.answer ∙ good)
+    pub graph_good : Admitted (graph_asked A)
+    graph_good = lent_admitted (graph_asked A) (length d) (sym checks.answer ∙ good)
 
-    pub settings-refused : {a : Checked} {r : Refusal} → a ≡ settings_of (scaled A.settings) → a ≡ Checks.Refused r → Accepts A m a d d'
+    pub settings_refused : {a : Checked} {r : Refusal} → a ≡ settings_of (scaled A.settings) → a ≡ Checks.Refused r → Accepts A m a d d'
     unfolding settings_of
-    settings-refused {a} {r} e f = accepts-as {j = Judgement.Refused r} (rw (sym checks.answer ∙ good, sym (plain-judged A.settings) ∙ checked_refused (settings_judged (scaled A.settings)) (settings (scaled A.settings)) (sym e ∙ f)) refl) f
+    settings_refused {a} {r} e f = accepts_as {j = Judgement.Refused r} (rw (sym checks.answer ∙ good, sym (plain_judged A.settings) ∙ checked_refused (settings_judged (scaled A.settings)) (settings (scaled A.settings)) (sym e ∙ f)) refl) f
 
     module _ {a : Checked} {s : Settings} (e : a ≡ settings_of (scaled A.settings)) (f : a ≡ Checks.Good s) where
       settled : unscaled_judged A.settings ≡ Judgement.Admitted
       unfolding settings_of
-      settled = sym (plain-judged A.settings) ∙ checked-good (settings_judged (scaled A.settings)) (settings (scaled A.settings)) (sym e ∙ f)
+      settled = sym (plain_judged A.settings) ∙ checked_good (settings_judged (scaled A.settings)) (settings (scaled A.settings)) (sym e ∙ f)
 
-      pub memory-refused : enough A.variables (graph_asked A).entries m ≡ false → Accepts A m (Checks.Refused Refusals.Buffer) d d'
-      memory-refused h = accepts-as {j = Judgement.Refused Refusals.Buffer} (rw (sym checks.answer ∙ good, settled, h) refl) refl
+      pub memory_refused : enough A.variables (graph_asked A).entries m ≡ false → Accepts A m (Checks.Refused Refusals.Buffer) d d'
+      memory_refused h = accepts_as {j = Judgement.Refused Refusals.Buffer} (rw (sym checks.answer ∙ good, settled, h) refl) refl
 
-      pub all-accepted : enough A.variables (graph_asked A).entries m ≡ true → Accepts A m (Checks.Good s) d d'
+      pub all_accepted : enough A.variables (graph_asked A).entries m ≡ true → Accepts A m (Checks.Good s) d d'
       unfolding settings_of
-      all-accepted h = accepts-as {j = Judgement.Admitted} (rw (sym checks.answer ∙ good, settled, h) refl) (sym f ∙ e ∙ ap (λ j. checked j (settings (scaled A.settings))) (checked-good (settings_judged (scaled A.settings)) (settings (scaled A.settings)) (sym e ∙ f)))
+      all_accepted h = accepts_as {j = Judgement.Admitted} (rw (sym checks.answer ∙ good, settled, h) refl) (sym f ∙ e ∙ ap (λ j. checked j (settings (scaled A.settings))) (checked_good (settings_judged (scaled A.settings)) (settings (scaled A.settings)) (sym e ∙ f)))
 
 -- ---- the answers of an advance
 
@@ -229,51 +229,51 @@ or_assoc Judgement.Admitted (Judgement.Refused r) c d = refl
 or_assoc (Judgement.Refused r) b c d = refl
 
 module _ (A : Asked) (z : Lent) {d d' : List ℕ} {a : Checked} (accepts : Accepts A (room_of z.memory) a d d') where
-  abbrev before-record : Judged
-  before-record = asked_finds A (length d) (room_of z.memory)
+  abbrev before_record : Judged
+  before_record = asked_finds A (length d) (room_of z.memory)
 
-  finds-is : advance_finds A (length d) z ≡ or_else before-record (resume_judged A z)
+  finds_is : advance_finds A (length d) z ≡ or_else before_record (resume_judged A z)
   unfolding advance_judged
-  finds-is = or_assoc (graph_judged_in limits (graph_asked A) (length d)) (unscaled_judged A.settings) (unless (enough A.variables (graph_asked A).entries (room_of z.memory)) Refusals.Buffer) (resume_judged A z)
+  finds_is = or_assoc (graph_judged_in limits (graph_asked A) (length d)) (unscaled_judged A.settings) (unless (enough A.variables (graph_asked A).entries (room_of z.memory)) Refusals.Buffer) (resume_judged A z)
 
   answers : {j : Judged} {z' : Lent} → advance_finds A (length d) z ≡ j → z' ≡ lent_after A j z → Advances A z z' d d' j
   answers h w = record { answer = sym h; lent = w ∙ ap (λ j. lent_after A j z) (sym h); degrees = accepts.degrees }
 
-  pub advances-refused : {r : Refusal} → a ≡ Checks.Refused r → Advances A z z d d' (Judgement.Refused r)
-  advances-refused e = answers (finds-is ∙ ap (λ j. or_else j (resume_judged A z)) (checked_refused before-record (settings (scaled A.settings)) (sym accepts.answer ∙ e))) refl
+  pub advances_refused : {r : Refusal} → a ≡ Checks.Refused r → Advances A z z d d' (Judgement.Refused r)
+  advances_refused e = answers (finds_is ∙ ap (λ j. or_else j (resume_judged A z)) (checked_refused before_record (settings (scaled A.settings)) (sym accepts.answer ∙ e))) refl
 
   module _ {s : Settings} (e : a ≡ Checks.Good s) where
-    told : checked before-record (settings (scaled A.settings)) ≡ Checks.Good s
+    told : checked before_record (settings (scaled A.settings)) ≡ Checks.Good s
     told = sym accepts.answer ∙ e
 
     pub same : settings (scaled A.settings) ≡ s
-    same = checked-same before-record (settings (scaled A.settings)) told
+    same = checked_same before_record (settings (scaled A.settings)) told
 
-    passed : before-record ≡ Judgement.Admitted
-    passed = checked-good before-record (settings (scaled A.settings)) told
+    passed : before_record ≡ Judgement.Admitted
+    passed = checked_good before_record (settings (scaled A.settings)) told
 
     abbrev rest : Judged
     rest = or_else (unscaled_judged A.settings) (unless (enough A.variables (graph_asked A).entries (room_of z.memory)) Refusals.Buffer)
 
-    graph-passed : graph_judged_in limits (graph_asked A) (length d) ≡ Judgement.Admitted
-    graph-passed = or_else-left (graph_judged_in limits (graph_asked A) (length d)) rest passed
+    graph_passed : graph_judged_in limits (graph_asked A) (length d) ≡ Judgement.Admitted
+    graph_passed = or_else_left (graph_judged_in limits (graph_asked A) (length d)) rest passed
 
-    rest-passed : rest ≡ Judgement.Admitted
-    rest-passed = or_else-right (graph_judged_in limits (graph_asked A) (length d)) rest passed
+    rest_passed : rest ≡ Judgement.Admitted
+    rest_passed = or_else_right (graph_judged_in limits (graph_asked A) (length d)) rest passed
 
-    pub accepted-graph : Admitted (graph_asked A)
-    accepted-graph = lent-admitted (graph_asked A) (length d) graph-passed
+    pub accepted_graph : Admitted (graph_asked A)
+    accepted_graph = lent_admitted (graph_asked A) (length d) graph_passed
 
-    pub accepted-degrees : Degrees (graph_asked A) d'
-    accepted-degrees = counted-degrees (graph_asked A) _ accepted-graph (lent-counted limits (graph_asked A) (length d) d graph-passed accepts.degrees)
+    pub accepted_degrees : Degrees (graph_asked A) d'
+    accepted_degrees = counted_degrees (graph_asked A) _ accepted_graph (lent_counted limits (graph_asked A) (length d) d graph_passed accepts.degrees)
 
-    pub accepted-settings : Admissible s
+    pub accepted_settings : Admissible s
     unfolding settings_of
-    accepted-settings = subst Admissible same (good-settings (scaled A.settings) (settings (scaled A.settings))
-        (ap (λ j. checked j (settings (scaled A.settings))) (plain-judged A.settings ∙ or_else-left (unscaled_judged A.settings) _ rest-passed))).1
+    accepted_settings = subst Admissible same (good_settings (scaled A.settings) (settings (scaled A.settings))
+        (ap (λ j. checked j (settings (scaled A.settings))) (plain_judged A.settings ∙ or_else_left (unscaled_judged A.settings) _ rest_passed))).1
 
-    pub accepted-long : Long (graph_asked A) z.memory
-    accepted-long = long-told (graph_asked A) z.memory (unless-true (enough A.variables (graph_asked A).entries (room_of z.memory)) Refusals.Buffer (or_else-right (unscaled_judged A.settings) _ rest-passed))
+    pub accepted_long : Long (graph_asked A) z.memory
+    accepted_long = long_told (graph_asked A) z.memory (unless_true (enough A.variables (graph_asked A).entries (room_of z.memory)) Refusals.Buffer (or_else_right (unscaled_judged A.settings) _ rest_passed))
 
     -- what is found of the record and the bytes
     module _ {j : Judged} (judged : j ≡ or_else (unless (admits s.limit A.count z.run) Refusals.Advance)
@@ -281,18 +281,18 @@ module _ (A : Asked) (z : Lent) {d d' : List ℕ} {a : Checked} (accepts : Accep
         (or_else (within_judged (largest s.message) z.memory.variable_messages (graph_asked A).entries) (within_judged (largest s.message) z.memory.check_messages (graph_asked A).entries)))) where
       found : advance_finds A (length d) z ≡ j
       unfolding resume_judged
-      found = finds-is ∙ ap (λ i. or_else i (resume_judged A z)) passed
+      found = finds_is ∙ ap (λ i. or_else i (resume_judged A z)) passed
           ∙ ap (λ (t : Settings). or_else (unless (admits t.limit A.count z.run) Refusals.Advance)
           (or_else (within_judged (largest t.channel) z.memory.levels A.variables)
           (or_else (within_judged (largest t.message) z.memory.variable_messages (graph_asked A).entries) (within_judged (largest t.message) z.memory.check_messages (graph_asked A).entries)))) same
           ∙ sym judged
 
-      pub resume-refused : {r : Refusal} → j ≡ Judgement.Refused r → Advances A z z d d' (Judgement.Refused r)
-      resume-refused h = answers (found ∙ h) refl
+      pub resume_refused : {r : Refusal} → j ≡ Judgement.Refused r → Advances A z z d d' (Judgement.Refused r)
+      resume_refused h = answers (found ∙ h) refl
 
       module _ (h : j ≡ Judgement.Admitted) where
-        pub advances-none : A.count ≡ 0 → Advances A z z d d' Judgement.Admitted
-        advances-none n = answers (found ∙ h) (rw (eq-eqb A.count 0 n) refl)
+        pub advances_none : A.count ≡ 0 → Advances A z z d d' Judgement.Admitted
+        advances_none n = answers (found ∙ h) (rw (eq-eqb A.count 0 n) refl)
 
         admitted : or_else (unless (admits s.limit A.count z.run) Refusals.Advance)
             (or_else (within_judged (largest s.channel) z.memory.levels A.variables)
@@ -300,25 +300,25 @@ module _ (A : Asked) (z : Lent) {d d' : List ℕ} {a : Checked} (accepts : Accep
         admitted = sym judged ∙ h
 
         bytes : or_else (within_judged (largest s.message) z.memory.variable_messages (graph_asked A).entries) (within_judged (largest s.message) z.memory.check_messages (graph_asked A).entries) ≡ Judgement.Admitted
-        bytes = or_else-right (within_judged (largest s.channel) z.memory.levels A.variables) _ (or_else-right (unless (admits s.limit A.count z.run) Refusals.Advance) _ admitted)
+        bytes = or_else_right (within_judged (largest s.channel) z.memory.levels A.variables) _ (or_else_right (unless (admits s.limit A.count z.run) Refusals.Advance) _ admitted)
 
-        pub variable-within : within_judged (largest s.message) z.memory.variable_messages (graph_asked A).entries ≡ Judgement.Admitted
-        variable-within = or_else-left (within_judged (largest s.message) z.memory.variable_messages (graph_asked A).entries) _ bytes
+        pub variable_within : within_judged (largest s.message) z.memory.variable_messages (graph_asked A).entries ≡ Judgement.Admitted
+        variable_within = or_else_left (within_judged (largest s.message) z.memory.variable_messages (graph_asked A).entries) _ bytes
 
-        pub check-within : within_judged (largest s.message) z.memory.check_messages (graph_asked A).entries ≡ Judgement.Admitted
-        check-within = or_else-right (within_judged (largest s.message) z.memory.variable_messages (graph_asked A).entries) _ bytes
+        pub check_within_lem : within_judged (largest s.message) z.memory.check_messages (graph_asked A).entries ≡ Judgement.Admitted
+        check_within_lem = or_else_right (within_judged (largest s.message) z.memory.variable_messages (graph_asked A).entries) _ bytes
 
-        pub resumable-below : z.run.iterations < s.limit
-        resumable-below =
+        pub resumable_below : z.run.iterations < s.limit
+        resumable_below =
             ltb-true z.run.iterations s.limit (and_left (ltb z.run.iterations s.limit) (leb A.count s.limit)
             (and_right (is_open z.run.standing) (ltb z.run.iterations s.limit && leb A.count s.limit)
-            (unless-true (admits s.limit A.count z.run) Refusals.Advance (or_else-left (unless (admits s.limit A.count z.run) Refusals.Advance) _ admitted))))
+            (unless_true (admits s.limit A.count z.run) Refusals.Advance (or_else_left (unless (admits s.limit A.count z.run) Refusals.Advance) _ admitted))))
 
-        pub advances-on : (A.count ≡ 0 → ⊥) → {r : Run} {M' : Memory}
+        pub advances_on : (A.count ≡ 0 → ⊥) → {r : Run} {M' : Memory}
             → AdvancesInto (graph_asked A) (rules_under s (graph_asked A) (level_in (take A.variables z.memory.levels))) s.limit A.count
             (handed z.run (take (graph_asked A).entries z.memory.variable_messages) (take (graph_asked A).entries z.memory.check_messages)) r z.memory M'
             → Advances A z (lent r M') d d' Judgement.Admitted
-        advances-on n {r} {M'} w = answers (found ∙ h) (ap₂ lent run.run run.memory ∙ ap (λ b. cond b z (lent (record_of (graph_asked A) (limit_asked A) (state_after A z)) (refilled A.variables (graph_asked A).entries (state_after A z) z.memory))) (sym (ne_eqb A.count 0 n)))
+        advances_on n {r} {M'} w = answers (found ∙ h) (ap₂ lent run.run run.memory ∙ ap (λ b. cond b z (lent (record_of (graph_asked A) (limit_asked A) (state_after A z)) (refilled A.variables (graph_asked A).entries (state_after A z) z.memory))) (sym (ne_eqb A.count 0 n)))
           where
             run : AdvancesInto (graph_asked A) (scheme_asked A z.memory.levels) (limit_asked A) A.count
                 (handed z.run (take (graph_asked A).entries z.memory.variable_messages) (take (graph_asked A).entries z.memory.check_messages)) r z.memory M'

@@ -14,8 +14,8 @@ use Rattle.refusals.specs.declared.Refusal.{Refusal}
 use Rattle.rules.specs.declared.Report.{Report}
 use Rattle.refusals.specs.declared.Judged.{Judged}
 use Rattle.refusals.specs.declared.Judged.TheVariants as Judgement
-use Rattle.rules.proofs.Ranges.{length-tabulate}
-use Rattle.refusals.proofs.Judging.{or_else-none}
+use Rattle.rules.proofs.Ranges.{length_tabulate}
+use Rattle.refusals.proofs.Judging.{or_else_none}
 use Rattle.decoding.specs.declared.Decoded.{Decoded}
 use Rattle.decoding.specs.declared.Decoded.TheVariants.{Ran, Refused}
 use Rattle.decoding.specs.declared.Room.{Room}
@@ -25,17 +25,17 @@ use Rattle.decoding.specs.Decoding.{Frame, Memory, room_of, enough, graph, schem
 use Rattle.decoding.proofs.Accepting.{as_before}
 use Rattle.program_texts.specs.Printing.Texts.{report_text, refusal_text, longest, Prints}
 use Rattle.program_texts.specs.Answering.{judged_text, frame_text}
-use Rattle.printing.proofs.Parts.{prints-as}
+use Rattle.printing.proofs.Parts.{prints_as}
 
 -- as many bits as variables
-state-bits : (G : Graph) (R : Scheme) (t : ℕ) → length (state G R t).bits ≡ G.variables
+state_bits : (G : Graph) (R : Scheme) (t : ℕ) → length (state G R t).bits ≡ G.variables
 unfolding state begun next iterated
-state-bits G R zero = length-tabulate R.first_bit G.variables
-state-bits G R (suc t) = length-tabulate _ G.variables
+state_bits G R zero = length_tabulate R.first_bit G.variables
+state_bits G R (suc t) = length_tabulate _ G.variables
 
-final-bits : (G : Graph) (R : Scheme) (limit : ℕ) → length (final G R limit).bits ≡ G.variables
+final_bits : (G : Graph) (R : Scheme) (limit : ℕ) → length (final G R limit).bits ≡ G.variables
 unfolding final
-final-bits G R limit = state-bits G R (stop G R limit)
+final_bits G R limit = state_bits G R (stop G R limit)
 
 pub record Lent (F : Frame) (d : ℕ) (m : Room) : Type 0 where
   pub old : Old (graph F) d
@@ -49,45 +49,45 @@ pub record Lent (F : Frame) (d : ℕ) (m : Room) : Type 0 where
 abbrev found : Frame → Judged
 found F = frame_judged F (graph_judged program_limits (graph F))
 
-lent-judged : (F : Frame) (d : ℕ) (m : Room) → Lent F d m → decode_finds F d m ≡ found F
+lent_judged : (F : Frame) (d : ℕ) (m : Room) → Lent F d m → decode_finds F d m ≡ found F
 unfolding decode_judged
-lent-judged F d m l =
+lent_judged F d m l =
     as_before F d m l.old ∙
     (let e : enough F.variables (graph F).entries m ≡ true
     = rw (le-leb _ _ l.levels, le-leb _ _ l.variable_messages, le-leb _ _ l.check_messages, le-leb _ _ l.sums, le-leb _ _ l.bits) in
-    rw e (or_else-none (found F)))
+    rw e (or_else_none (found F)))
 
 module _ {F : Frame} {M M' : Memory} {x x' : List ℕ} {d : Decoded} (w : Decodes F M M' x x' d) (l : Lent F (length x) (room_of M)) where
-  answer-is : d ≡ decoded F (found F)
-  answer-is = w.answer ∙ ap (decoded F) (lent-judged F (length x) (room_of M) l)
+  answer_is : d ≡ decoded F (found F)
+  answer_is = w.answer ∙ ap (decoded F) (lent_judged F (length x) (room_of M) l)
 
-  memory-is : M' ≡ memory_after F (found F) M
-  memory-is = w.memory ∙ ap (λ (j : Judged). memory_after F j M) (lent-judged F (length x) (room_of M) l)
+  memory_is : M' ≡ memory_after F (found F) M
+  memory_is = w.memory ∙ ap (λ (j : Judged). memory_after F j M) (lent_judged F (length x) (room_of M) l)
 
   frame_refused : {r : Refusal} → d ≡ Refused r → frame_text F ≡ refusal_text r
   unfolding frame_text
-  frame_refused {r} e = go (found F) (sym answer-is ∙ e)
+  frame_refused {r} e = go (found F) (sym answer_is ∙ e)
     where
       go : (j : Judged) → decoded F j ≡ Refused r → judged_text F j ≡ refusal_text r
       go Judgement.Admitted q = let z : ◌≡◌ {A = ℕ} 0 1 = cc in absurd (omega arith)
       go (Judgement.Refused s) q = let u : s ≡ r = cc in ap refusal_text u
 
-  frame-ran : {r : Report} → d ≡ Ran r → frame_text F ≡ report_text r (take F.variables M'.bits)
+  frame_ran : {r : Report} → d ≡ Ran r → frame_text F ≡ report_text r (take F.variables M'.bits)
   unfolding frame_text
-  frame-ran {r} e = go (found F) (sym answer-is ∙ e) memory-is
+  frame_ran {r} e = go (found F) (sym answer_is ∙ e) memory_is
     where
       go : (j : Judged) → decoded F j ≡ Ran r → M' ≡ memory_after F j M → judged_text F j ≡ report_text r (take F.variables M'.bits)
       go Judgement.Admitted q m =
           let b : List ℕ = map one (final (graph F) (scheme F) F.asked.limit).bits in
           let u : report (graph F) (scheme F) F.asked.limit ≡ r = cc in
-          let n : length b ≡ F.variables = length-map (final (graph F) (scheme F) F.asked.limit).bits one ∙ final-bits (graph F) (scheme F) F.asked.limit in
+          let n : length b ≡ F.variables = length-map (final (graph F) (scheme F) F.asked.limit).bits one ∙ final_bits (graph F) (scheme F) F.asked.limit in
           let v : take F.variables M'.bits ≡ b = ap (λ (x : Memory). take F.variables x.bits) m ∙ take_at b (drop F.variables M.bits) F.variables n in
           ap₂ report_text u (sym v)
       go (Judgement.Refused s) q m = let z : ◌≡◌ {A = ℕ} 0 1 = cc in absurd (omega arith)
 
   module _ {n : ℕ} {old now : List ℕ} where
-    pub refused-prints : {r : Refusal} → d ≡ Refused r → Prints longest (refusal_text r) old now n → Prints longest (frame_text F) old now n
-    refused-prints e p = prints-as (sym (frame_refused e)) p
+    pub refused_prints : {r : Refusal} → d ≡ Refused r → Prints longest (refusal_text r) old now n → Prints longest (frame_text F) old now n
+    refused_prints e p = prints_as (sym (frame_refused e)) p
 
-    pub ran-prints : {r : Report} → d ≡ Ran r → Prints longest (report_text r (take F.variables M'.bits)) old now n → Prints longest (frame_text F) old now n
-    ran-prints e p = prints-as (sym (frame-ran e)) p
+    pub ran_prints : {r : Report} → d ≡ Ran r → Prints longest (report_text r (take F.variables M'.bits)) old now n → Prints longest (frame_text F) old now n
+    ran_prints e p = prints_as (sym (frame_ran e)) p

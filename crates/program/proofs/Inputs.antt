@@ -11,14 +11,14 @@ use Rattle.rules.specs.Graphs.{Graph, program_limits, fewest_variables, fewest_c
 use Rattle.refusals.specs.declared.Refusal.{Refusal}
 use Rattle.refusals.specs.declared.Refusal.TheVariants as Refusals
 use Rattle.words.specs.Words.{table}
-use Rattle.words.proofs.Words.{length-table}
+use Rattle.words.proofs.Words.{length_table}
 use Rattle.texts.proofs.Putting.{put_front}
 use Rattle.code_sheets.specs.declared.Counts.{Counts}
 use Rattle.code_sheets.specs.declared.Sheet.{Sheet}
 use Rattle.code_sheets.specs.declared.Sheet.TheVariants as Sheets
 use Rattle.code_sheets.specs.Reader.Reading as Sheet
 use Rattle.code_sheets.specs.Reader.Reading.{Reading, sheet_read}
-use Rattle.code_sheets.proofs.Reader.Texts.{texts-and-graphs}
+use Rattle.code_sheets.proofs.Reader.Texts.{texts_and_graphs}
 use Rattle.code_sheets.proofs.Reader.Calls as Calls
 use Rattle.settings.specs.declared.Parameters.{Parameters}
 use Rattle.decoding.specs.Frames.{frame}
@@ -33,15 +33,15 @@ use Rattle.program_texts.specs.Answering.{frame_text, after_run, after_sheet, sh
 -- ---- the run text
 
 module _ (n : ℕ) (s starts columns : List ℕ) {r : Run} {old now : List ℕ} (w : Run.ReadAs (run_text n s) r old now) where
-  pub run-refused : {l : ℕ} → r ≡ Runs.Refused l → refusal_text (Refusals.RunText l) ≡ after_run n starts columns (run_text n s)
-  run-refused {l} e = go (run_text n s) (sym w.answer ∙ e)
+  pub run_refused : {l : ℕ} → r ≡ Runs.Refused l → refusal_text (Refusals.RunText l) ≡ after_run n starts columns (run_text n s)
+  run_refused {l} e = go (run_text n s) (sym w.answer ∙ e)
     where
       go : (x : RunText) → Run.answer_of x ≡ Runs.Refused l → refusal_text (Refusals.RunText l) ≡ after_run n starts columns x
       go (Run.refused k) q = let u : l ≡ k = cc in ap (λ (j : ℕ). refusal_text (Refusals.RunText j)) u
       go (Run.read g v) q = let z : ◌≡◌ {A = ℕ} 0 1 = cc in absurd (omega arith)
 
-  pub run-given : {g : Parameters} → r ≡ Runs.Read g → frame_text (frame n starts columns (take (4 * n) now) g) ≡ after_run n starts columns (run_text n s)
-  run-given {g} e = go (run_text n s) refl (sym w.answer ∙ e) w.values
+  pub run_given : {g : Parameters} → r ≡ Runs.Read g → frame_text (frame n starts columns (take (4 * n) now) g) ≡ after_run n starts columns (run_text n s)
+  run_given {g} e = go (run_text n s) refl (sym w.answer ∙ e) w.values
     where
       go : (x : RunText) → run_text n s ≡ x → Run.answer_of x ≡ Runs.Read g → now ≡ Run.values_in x old
           → frame_text (frame n starts columns (take (4 * n) now) g) ≡ after_run n starts columns x
@@ -61,17 +61,17 @@ pub record GraphIn (t : List ℕ) (k : Counts) (starts columns : List ℕ) : Typ
   pub text : (run : List ℕ) → after_run k.variables (take (wide * (k.checks + 1)) starts) (take (wide * k.entries) columns) (run_text k.variables run)
       ≡ after_sheet (sheet_given t) run
 
-graph-in : (t : List ℕ) (G : Graph) (st co : List ℕ) → sheet_given t ≡ Sheet.graph G
+graph_in_lem : (t : List ℕ) (G : Graph) (st co : List ℕ) → sheet_given t ≡ Sheet.graph G
     → GraphIn t (record { variables = G.variables; checks = G.checks; entries = G.entries }) (Sheet.starts_of (Sheet.graph G) st) (Sheet.columns_of (Sheet.graph G) co)
-graph-in t G st co e =
+graph_in_lem t G st co e =
     let s : ℕ = wide * suc program_limits.checks in
     let c : ℕ = wide * program_limits.entries in
-    let a = (texts-and-graphs.accepted program_limits t (4 * program_limits.variables) s c G
+    let a = (texts_and_graphs.accepted program_limits t (4 * program_limits.variables) s c G
     (Calls.same-reading program_limits t (4 * program_limits.variables) s c (Calls.most-enough program_limits t (omega arith)) ∙ e)).0 in
     let st' : take (wide * (G.checks + 1)) (table wide G.start (suc G.checks) ++ drop (wide * suc G.checks) st) ≡ table wide G.start (suc G.checks)
-    = take_at (table wide G.start (suc G.checks)) (drop (wide * suc G.checks) st) (wide * (G.checks + 1)) (length-table wide G.start (suc G.checks) ∙ omega arith) in
+    = take_at (table wide G.start (suc G.checks)) (drop (wide * suc G.checks) st) (wide * (G.checks + 1)) (length_table wide G.start (suc G.checks) ∙ omega arith) in
     let co' : take (wide * G.entries) (table wide G.column G.entries ++ drop (wide * G.entries) co) ≡ table wide G.column G.entries
-    = take_at (table wide G.column G.entries) (drop (wide * G.entries) co) (wide * G.entries) (length-table wide G.column G.entries) in
+    = take_at (table wide G.column G.entries) (drop (wide * G.entries) co) (wide * G.entries) (length_table wide G.column G.entries) in
     record {
       variables = a.variables;
       checks = a.checks;
@@ -86,15 +86,15 @@ module _ (t : List ℕ) {r : Sheet} {d d' st st' co co' : List ℕ} (w : Sheet.R
   read_as : Sheet.ReadAs (sheet_given t) r st st' co co'
   read_as = subst (λ (x : Reading). Sheet.ReadAs x r st st' co co') (ap₂ (sheet_read program_limits t) ls lc) (Calls.read_as {L = program_limits} {t = t} (omega arith) w)
 
-  pub sheet-refused : {x : Refusal} → r ≡ Sheets.Refused x → (run : List ℕ) → refusal_text x ≡ after_sheet (sheet_given t) run
-  sheet-refused {x} e run = go (sheet_given t) (sym read_as.answer ∙ e)
+  pub sheet_refused : {x : Refusal} → r ≡ Sheets.Refused x → (run : List ℕ) → refusal_text x ≡ after_sheet (sheet_given t) run
+  sheet_refused {x} e run = go (sheet_given t) (sym read_as.answer ∙ e)
     where
       go : (y : Reading) → Sheet.answer_of y ≡ Sheets.Refused x → refusal_text x ≡ after_sheet y run
       go (Sheet.turned s) q = let u : x ≡ s = cc in ap refusal_text u
       go (Sheet.graph G) q = let z : ◌≡◌ {A = ℕ} 0 1 = cc in absurd (omega arith)
 
-  pub sheet-graph : {k : Counts} → r ≡ Sheets.Read k → GraphIn t k st' co'
-  sheet-graph {k} e = go (sheet_given t) refl (sym read_as.answer ∙ e) read_as.starts read_as.columns
+  pub sheet_graph : {k : Counts} → r ≡ Sheets.Read k → GraphIn t k st' co'
+  sheet_graph {k} e = go (sheet_given t) refl (sym read_as.answer ∙ e) read_as.starts read_as.columns
     where
       go : (y : Reading) → sheet_given t ≡ y → Sheet.answer_of y ≡ Sheets.Read k → st' ≡ Sheet.starts_of y st → co' ≡ Sheet.columns_of y co
           → GraphIn t k st' co'
@@ -104,24 +104,24 @@ module _ (t : List ℕ) {r : Sheet} {d d' st st' co co' : List ℕ} (w : Sheet.R
           subst (λ (x : Counts). GraphIn t x st' co') u
           (subst (λ (x : List ℕ). GraphIn t (record { variables = G.variables; checks = G.checks; entries = G.entries }) x co') (sym a)
           (subst (λ (x : List ℕ). GraphIn t (record { variables = G.variables; checks = G.checks; entries = G.entries }) (Sheet.starts_of (Sheet.graph G) st) x) (sym b)
-          (graph-in t G st co f)))
+          (graph_in_lem t G st co f)))
 
 -- ---- the whole answer
 
 module _ (sheet run : List ℕ) where
-  pub program-large : largest_input < length sheet → refusal_text (Refusals.Count 0) ≡ program_text sheet run
+  pub program_large : largest_input < length sheet → refusal_text (Refusals.Count 0) ≡ program_text sheet run
   unfolding program_text
-  program-large h = sym (rw (lt-leb (length sheet) largest_input h))
+  program_large h = sym (rw (lt-leb (length sheet) largest_input h))
 
-  pub program-small : length sheet ≤ largest_input → after_sheet (sheet_given sheet) run ≡ program_text sheet run
+  pub program_small : length sheet ≤ largest_input → after_sheet (sheet_given sheet) run ≡ program_text sheet run
   unfolding program_text
-  program-small h = sym (rw (le-leb (length sheet) largest_input h))
+  program_small h = sym (rw (le-leb (length sheet) largest_input h))
 
-  pub answer-none : {old : List ℕ} → length old < longest → Answers sheet run old old 0
-  answer-none {old} h = record { text = []; is = sym (rw (lt-leb longest (length old) h)); holds = refl; long = refl }
+  pub answer_none : {old : List ℕ} → length old < longest → Answers sheet run old old 0
+  answer_none {old} h = record { text = []; is = sym (rw (lt-leb longest (length old) h)); holds = refl; long = refl }
 
-  pub answer-put : {t old now : List ℕ} {r : ℕ} → longest ≤ length old → t ≡ program_text sheet run → Prints longest t old now r → Answers sheet run old now r
-  answer-put {t} {old} {now} {r} h e p = record {
+  pub answer_put : {t old now : List ℕ} {r : ℕ} → longest ≤ length old → t ≡ program_text sheet run → Prints longest t old now r → Answers sheet run old now r
+  answer_put {t} {old} {now} {r} h e p = record {
     text = t;
     is = e ∙ sym (rw (le-leb longest (length old) h));
     holds = put_front (omega (arith, p.put.after, p.short)) p.put;

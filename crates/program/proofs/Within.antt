@@ -6,5 +6,5 @@ use native.Mathlib.Omega.{arith}
 use lib.ListN.{length, drop, length-append}
 use Rattle.program_texts.specs.Answering.{Answers}
 
-pub answer-within : {sheet run old now : List ℕ} {r : ℕ} → Answers sheet run old now r → r ≤ length now
-answer-within {old = old} w = omega (arith, w.long, ap length w.holds, length-append w.text (drop (length w.text) old))
+pub answer_within : {sheet run old now : List ℕ} {r : ℕ} → Answers sheet run old now r → r ≤ length now
+answer_within {old = old} w = omega (arith, w.long, ap length w.holds, length-append w.text (drop (length w.text) old))

@@ -25,6 +25,6 @@ use Rattle.program_texts.specs.Printing.Texts.{verdict_lines, report_text, refus
 use Rattle.program_texts.specs.Answering.{frame_text, program_text}
 use Rattle.program_texts.specs.Trials.{many, trials, passes, TrialsPass}
 
-pub trials-pass : TrialsPass
+pub trials_pass : TrialsPass
 unfolding xor mul div lt of_int of_bits fold but count joined tabulate first byte blank variable_degree check_of odd_check unsatisfied first_message first_bit others from_check lifts lifted counted contribution odd extra channel_part share posterior outgoing_sum outgoing_magnitude outgoing from_variable unlifted sign_preserving begun sent_in sent iterated next state unsatisfied_in stop final report each word bytes table span_judged shape_judged graph_judged counts_judged starts_judged columns_judged rows_judged check_degrees_judged variable_degrees_judged positive wholes_below level_for frame_judged digits decimal more number line_text field line fixed rows sheet_lines start_in column_in sheet_read hex_digit hex_digits pattern setting titles scaling settings settings_line value_lines run_lines run_text verdict_lines report_text refusal_text frame_text program_text many trials passes failures
-trials-pass = refl
+trials_pass = refl

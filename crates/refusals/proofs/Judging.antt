@@ -10,44 +10,44 @@ use Rattle.refusals.specs.Refusals.{unless, or_else, each}
 use Rattle.refusals.specs.declared.Refusal.{Refusal}
 use Rattle.refusals.specs.declared.Judged.{Judged}
 use Rattle.refusals.specs.declared.Judged.TheVariants.{Admitted, Refused}
-use Rattle.rules.proofs.Ranges.{fold-none, fold_next, fold-ext}
+use Rattle.rules.proofs.Ranges.{fold_none, fold_next, fold_ext}
 
 -- ---- one after the other
 
-pub refused-not : {r : Refusal} → Refused r ≡ Admitted → ⊥
-refused-not {r} h = let z : ◌≡◌ {A = ℕ} 0 1 = cc in absurd (omega arith)
+pub refused_not : {r : Refusal} → Refused r ≡ Admitted → ⊥
+refused_not {r} h = let z : ◌≡◌ {A = ℕ} 0 1 = cc in absurd (omega arith)
 
-pub or_else-left : (a b : Judged) → or_else a b ≡ Admitted → a ≡ Admitted
-or_else-left Admitted b h = refl
-or_else-left (Refused r) b h = h
+pub or_else_left : (a b : Judged) → or_else a b ≡ Admitted → a ≡ Admitted
+or_else_left Admitted b h = refl
+or_else_left (Refused r) b h = h
 
-pub or_else-right : (a b : Judged) → or_else a b ≡ Admitted → b ≡ Admitted
-or_else-right Admitted b h = h
-or_else-right (Refused r) b h = absurd (refused-not h)
+pub or_else_right : (a b : Judged) → or_else a b ≡ Admitted → b ≡ Admitted
+or_else_right Admitted b h = h
+or_else_right (Refused r) b h = absurd (refused_not h)
 
-pub or_else-none : (a : Judged) → or_else a Admitted ≡ a
-or_else-none Admitted = refl
-or_else-none (Refused r) = refl
+pub or_else_none : (a : Judged) → or_else a Admitted ≡ a
+or_else_none Admitted = refl
+or_else_none (Refused r) = refl
 
-pub or_else-both : {a b : Judged} → a ≡ Admitted → b ≡ Admitted → or_else a b ≡ Admitted
-or_else-both {a} {b} p q = rw (p, q)
+pub or_else_both : {a b : Judged} → a ≡ Admitted → b ≡ Admitted → or_else a b ≡ Admitted
+or_else_both {a} {b} p q = rw (p, q)
 
-pub unless-true : (b : Bool) (r : Refusal) → unless b r ≡ Admitted → b ≡ true
-unless-true true r h = refl
-unless-true false r h = absurd (refused-not h)
+pub unless_true : (b : Bool) (r : Refusal) → unless b r ≡ Admitted → b ≡ true
+unless_true true r h = refl
+unless_true false r h = absurd (refused_not h)
 
 -- ---- the lowest index
 
 pub each_none : (j : ℕ → Judged) → each j 0 ≡ Admitted
 unfolding each
-each_none j = fold-none or_else Admitted j 0
+each_none j = fold_none or_else Admitted j 0
 
 pub each_next : (j : ℕ → Judged) (k : ℕ) → each j (k + 1) ≡ or_else (each j k) (j k)
 unfolding each
 each_next j k = fold_next or_else Admitted j k
 
 pub each_more : (j : ℕ → Judged) (k : ℕ) → each j k ≡ Admitted → j k ≡ Admitted → each j (k + 1) ≡ Admitted
-each_more j k h n = each_next j k ∙ or_else-both h n
+each_more j k h n = each_next j k ∙ or_else_both h n
 
 -- nothing refused below k, and k refused: the answer for every longer range
 pub each_at : (j : ℕ → Judged) (k n : ℕ) (r : Refusal) → each j k ≡ Admitted → j k ≡ Refused r → k < n → each j n ≡ Refused r
@@ -59,11 +59,11 @@ each_at j k (suc n) r h y l =
     here e = rw (← e, h, y)
 
 -- all are admitted exactly where each is
-pub each-is : (j : ℕ → Judged) (n : ℕ) → each j n ≡ Admitted → (k : ℕ) → k < n → j k ≡ Admitted
-each-is j zero h k l = absurd (omega arith)
-each-is j (suc n) h k l =
+pub each_is : (j : ℕ → Judged) (n : ℕ) → each j n ≡ Admitted → (k : ℕ) → k < n → j k ≡ Admitted
+each_is j zero h k l = absurd (omega arith)
+each_is j (suc n) h k l =
     let both : or_else (each j n) (j n) ≡ Admitted = sym (each_next j n) ∙ ap (each j) (add-one n) ∙ h in
-    ⊎_elim (λ e. ap j e ∙ or_else-right (each j n) (j n) both) (λ e. each-is j n (or_else-left (each j n) (j n) both) k e) (eq-or-lt_of_le (le_of_suc-le-suc l))
+    ⊎_elim (λ e. ap j e ∙ or_else_right (each j n) (j n) both) (λ e. each_is j n (or_else_left (each j n) (j n) both) k e) (eq-or-lt_of_le (le_of_suc-le-suc l))
 
 pub each_all : (j : ℕ → Judged) (n : ℕ) → ((k : ℕ) → k < n → j k ≡ Admitted) → each j n ≡ Admitted
 each_all j zero h = each_none j
@@ -72,12 +72,12 @@ each_all j (suc n) h = ap (each j) (sym (add-one n)) ∙ each_more j n (each_all
 -- the same at every index
 pub each_same : (j k : ℕ → Judged) (n : ℕ) → ((i : ℕ) → i < n → j i ≡ k i) → each j n ≡ each k n
 unfolding each
-each_same j k n h = fold-ext or_else Admitted j k 0 n (λ i _ l. h i (omega arith))
+each_same j k n h = fold_ext or_else Admitted j k 0 n (λ i _ l. h i (omega arith))
 
 -- what holds of every refusal that some index gives holds of the first
 pub each_from : (P : Refusal → Type 0) (j : ℕ → Judged) (n : ℕ) → ((k : ℕ) (r : Refusal) → j k ≡ Refused r → P r)
     → (r : Refusal) → each j n ≡ Refused r → P r
-each_from P j zero h r e = absurd (refused-not (sym e ∙ each_none j))
+each_from P j zero h r e = absurd (refused_not (sym e ∙ each_none j))
 each_from P j (suc n) h r e = go (each j n) refl (sym (each_next j n) ∙ ap (each j) (add-one n) ∙ e) (each_from P j n h r)
   where
     go : (a : Judged) → each j n ≡ a → or_else (each j n) (j n) ≡ Refused r → (each j n ≡ Refused r → P r) → P r
@@ -94,21 +94,21 @@ module _ {test : ℕ → Bool} {refusal : ℕ → Refusal} where
   pub passed_none : Passed test refusal 0
   passed_none = record { admitted = each_none (λ i. unless (test i) (refusal i)) }
 
-  pub passed-more : {k : ℕ} → Passed test refusal k → test k ≡ true → Passed test refusal (k + 1)
-  passed-more {k} q t = record { admitted = each_more (λ i. unless (test i) (refusal i)) k q.admitted (ap (λ b. unless b (refusal k)) t) }
+  pub passed_more : {k : ℕ} → Passed test refusal k → test k ≡ true → Passed test refusal (k + 1)
+  passed_more {k} q t = record { admitted = each_more (λ i. unless (test i) (refusal i)) k q.admitted (ap (λ b. unless b (refusal k)) t) }
 
-  pub passed-all : {k n : ℕ} → Passed test refusal k → k ≡ n → each (λ i. unless (test i) (refusal i)) n ≡ Admitted
-  passed-all q e = ap (each (λ i. unless (test i) (refusal i))) (sym e) ∙ q.admitted
+  pub passed_all : {k n : ℕ} → Passed test refusal k → k ≡ n → each (λ i. unless (test i) (refusal i)) n ≡ Admitted
+  passed_all q e = ap (each (λ i. unless (test i) (refusal i))) (sym e) ∙ q.admitted
 
-  pub failed-at : {k n : ℕ} → Passed test refusal k → test k ≡ false → k < n → each (λ i. unless (test i) (refusal i)) n ≡ Refused (refusal k)
-  failed-at {k} {n} q t l = each_at (λ i. unless (test i) (refusal i)) k n (refusal k) q.admitted (ap (λ b. unless b (refusal k)) t) l
+  pub failed_at : {k n : ℕ} → Passed test refusal k → test k ≡ false → k < n → each (λ i. unless (test i) (refusal i)) n ≡ Refused (refusal k)
+  failed_at {k} {n} q t l = each_at (λ i. unless (test i) (refusal i)) k n (refusal k) q.admitted (ap (λ b. unless b (refusal k)) t) l
 
 -- what an admitted range tells of each test, and back
 module _ (test : ℕ → Bool) (refusal : ℕ → Refusal) (n : ℕ) where
   pub all_true : each (λ i. unless (test i) (refusal i)) n ≡ Admitted → (k : ℕ) → k < n → test k ≡ true
-  all_true h k l = unless-true (test k) (refusal k) (each-is (λ i. unless (test i) (refusal i)) n h k l)
+  all_true h k l = unless_true (test k) (refusal k) (each_is (λ i. unless (test i) (refusal i)) n h k l)
 
-  pub true-all : ((k : ℕ) → k < n → test k ≡ true) → each (λ i. unless (test i) (refusal i)) n ≡ Admitted
-  true-all h = each_all (λ i. unless (test i) (refusal i)) n (λ k l. ap (λ b. unless b (refusal k)) (h k l))
+  pub true_all : ((k : ℕ) → k < n → test k ≡ true) → each (λ i. unless (test i) (refusal i)) n ≡ Admitted
+  true_all h = each_all (λ i. unless (test i) (refusal i)) n (λ k l. ap (λ b. unless b (refusal k)) (h k l))
 
 -- ---- tests

@@ -16,23 +16,23 @@ use Rattle.rules.specs.Sequence.{Scheme, unlifted, counted_in, sign_preserving, 
 use Rattle.rules.specs.Symmetry.{turned}
 use Rattle.rules.specs.Theorems.{heaviest, SentIsRest, NeverLifted, UnliftedBefore}
 use Rattle.rules.proofs.Tests.{and_no}
-use Rattle.rules.proofs.Parity.{outgoing-is-rest}
-use Rattle.rules.proofs.Simulation.{state-number}
+use Rattle.rules.proofs.Parity.{outgoing_is_rest}
+use Rattle.rules.proofs.Simulation.{state_number}
 
 -- ---- one message
 
 module _ (Nq : ℕ) (Λ : Lifting) (t : ℕ) where
-  pub counted-turned : (b : Bool) (l : Level) → counted Nq Λ t (turned b l) ≡ turned b (counted Nq Λ t l)
+  pub counted_turned : (b : Bool) (l : Level) → counted Nq Λ t (turned b l) ≡ turned b (counted Nq Λ t l)
   unfolding counted lifted turned
-  counted-turned b l = go (lifts Λ t)
+  counted_turned b l = go (lifts Λ t)
     where
       go : (x : Bool) → cond x (lifted Nq Λ.to (turned b l)) (turned b l) ≡ turned b (cond x (lifted Nq Λ.to l) l)
       go true = refl
       go false = refl
 
-  pub counted-within : Nq ≤ Λ.to → (l : Level) → l.magnitude ≤ Nq → (counted Nq Λ t l).magnitude ≤ heaviest Nq Λ t
+  pub counted_within : Nq ≤ Λ.to → (l : Level) → l.magnitude ≤ Nq → (counted Nq Λ t l).magnitude ≤ heaviest Nq Λ t
   unfolding counted lifted
-  counted-within w l h = go (lifts Λ t) (eqb l.magnitude Nq)
+  counted_within w l h = go (lifts Λ t) (eqb l.magnitude Nq)
     where
       go : (x same : Bool) → (cond x (record { minus = l.minus; magnitude = cond same Λ.to l.magnitude }) l).magnitude ≤ cond x Λ.to Nq
       go true true = omega arith
@@ -40,9 +40,9 @@ module _ (Nq : ℕ) (Λ : Lifting) (t : ℕ) where
       go false same = h
 
   -- the largest message counts as that bound
-  pub counted-largest : counted Nq Λ t (record { minus = false; magnitude = Nq }) ≡ record { minus = false; magnitude = heaviest Nq Λ t }
+  pub counted_largest : counted Nq Λ t (record { minus = false; magnitude = Nq }) ≡ record { minus = false; magnitude = heaviest Nq Λ t }
   unfolding counted lifted
-  counted-largest = go (lifts Λ t)
+  counted_largest = go (lifts Λ t)
     where
       plus : ℕ → Level
       plus n = record { minus = false; magnitude = n }
@@ -52,26 +52,26 @@ module _ (Nq : ℕ) (Λ : Lifting) (t : ℕ) where
       go false = refl
 
   module _ (off : lifts Λ t ≡ false) where
-    pub counted-off : (l : Level) → counted Nq Λ t l ≡ l
+    pub counted_off : (l : Level) → counted Nq Λ t l ≡ l
     unfolding counted
-    counted-off l = ap (λ b. cond b (lifted Nq Λ.to l) l) off
+    counted_off l = ap (λ b. cond b (lifted Nq Λ.to l) l) off
 
-    all-off : (C : ℕ → Level) → counted_in Nq Λ t C ≡ C
-    all-off C = fun_ext (λ e. counted-off (C e))
+    all_off : (C : ℕ → Level) → counted_in Nq Λ t C ≡ C
+    all_off C = fun_ext (λ e. counted_off (C e))
 
 -- ---- where nothing is lifted
 
-pub lifts-before : (Λ : Lifting) (t : ℕ) → t < Λ.from → lifts Λ t ≡ false
+pub lifts_before : (Λ : Lifting) (t : ℕ) → t < Λ.from → lifts Λ t ≡ false
 unfolding lifts
-lifts-before Λ t h = ap (λ b. b && not (eqb Λ.from never)) (lt-leb Λ.from t h)
+lifts_before Λ t h = ap (λ b. b && not (eqb Λ.from never)) (lt-leb Λ.from t h)
 
-lifts-never : (W t : ℕ) → lifts (record { from = never; to = W }) t ≡ false
+lifts_never : (W t : ℕ) → lifts (record { from = never; to = W }) t ≡ false
 unfolding lifts
-lifts-never W t = and_no (leb never t)
+lifts_never W t = and_no (leb never t)
 
-pub never-lifted : NeverLifted
+pub never_lifted : NeverLifted
 unfolding sign_preserving unlifted
-never-lifted G Nq φ W y = ap (λ (as-they-count : ℕ → (ℕ → Level) → ℕ → Level). rules as-they-count) (fun_ext (λ t. fun_ext (λ C. all-off Nq Λ t (lifts-never W t) C)))
+never_lifted G Nq φ W y = ap (λ (as-they-count : ℕ → (ℕ → Level) → ℕ → Level). rules as-they-count) (fun_ext (λ t. fun_ext (λ C. all_off Nq Λ t (lifts_never W t) C)))
   where
     Λ : Lifting
     Λ = record { from = never; to = W }
@@ -95,36 +95,36 @@ module _ (G : Graph) (Nq : ℕ) (φ : Offsets) (Λ : Lifting) (y : ℕ → Level
   R₀ : Scheme
   R₀ = unlifted G Nq φ y
 
-  sent-before : (t : ℕ) (q C : List Level) → t < Λ.from → sent_in G R t q C ≡ sent_in G R₀ t q C
+  sent_before : (t : ℕ) (q C : List Level) → t < Λ.from → sent_in G R t q C ≡ sent_in G R₀ t q C
   unfolding R R₀ sign_preserving unlifted sent_in
-  sent-before zero q C h = refl
-  sent-before (suc t) q C h = ap (λ f. tabulate (from_variable G Nq φ y f) G.entries) (all-off Nq Λ (suc t) (lifts-before Λ (suc t) h) (level_at C))
+  sent_before zero q C h = refl
+  sent_before (suc t) q C h = ap (λ f. tabulate (from_variable G Nq φ y f) G.entries) (all_off Nq Λ (suc t) (lifts_before Λ (suc t) h) (level_at C))
 
-  iterated-before : (t : ℕ) (q : List Level) → t < Λ.from → iterated G R t q ≡ iterated G R₀ t q
+  iterated_before : (t : ℕ) (q : List Level) → t < Λ.from → iterated G R t q ≡ iterated G R₀ t q
   unfolding R R₀ sign_preserving unlifted iterated
-  iterated-before t q h =
+  iterated_before t q h =
       ap (λ (S : List ℤ). record { iteration = t; variable_messages = q; check_messages = C; sums = S; bits = tabulate (λ v. bit_of (get_or S v (pos 0)) (y v).minus) G.variables })
-      (ap (λ f. tabulate (posterior G y f) G.variables) (all-off Nq Λ t (lifts-before Λ t h) (level_at C)))
+      (ap (λ f. tabulate (posterior G y f) G.variables) (all_off Nq Λ t (lifts_before Λ t h) (level_at C)))
     where
       C : List Level
       C = tabulate (from_check G (level_at q)) G.entries
 
-  state-before : (t : ℕ) → t < Λ.from → state G R t ≡ state G R₀ t
+  state_before : (t : ℕ) → t < Λ.from → state G R t ≡ state G R₀ t
   unfolding R R₀ sign_preserving unlifted state begun next sent
-  state-before zero h = refl
-  state-before (suc t) h =
-      let n = state-number G R₀ t in
+  state_before zero h = refl
+  state_before (suc t) h =
+      let n = state_number G R₀ t in
       let σ = state G R₀ t in
-      ap (next G R) (state-before t (omega arith))
-      ∙ ap (iterated G R (suc σ.iteration)) (sent-before σ.iteration σ.variable_messages σ.check_messages (omega arith))
-      ∙ iterated-before (suc σ.iteration) (sent G R₀ σ) (omega arith)
+      ap (next G R) (state_before t (omega arith))
+      ∙ ap (iterated G R (suc σ.iteration)) (sent_before σ.iteration σ.variable_messages σ.check_messages (omega arith))
+      ∙ iterated_before (suc σ.iteration) (sent G R₀ σ) (omega arith)
 
-pub unlifted-before : UnliftedBefore
+pub unlifted_before : UnliftedBefore
 unfolding R R₀
-unlifted-before G Nq φ Λ y t h = state-before G Nq φ Λ y t h
+unlifted_before G Nq φ Λ y t h = state_before G Nq φ Λ y t h
 
 -- ---- what is sent
 
-pub sent-is-rest : SentIsRest
+pub sent_is_rest : SentIsRest
 unfolding sign_preserving unlifted from_variable
-sent-is-rest G Nq φ Λ y C t e h = ap (outgoing Nq φ) (outgoing-is-rest G y (counted_in Nq Λ t C) e h)
+sent_is_rest G Nq φ Λ y C t e h = ap (outgoing Nq φ) (outgoing_is_rest G y (counted_in Nq Λ t C) e h)

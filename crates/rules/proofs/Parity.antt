@@ -12,65 +12,65 @@ use Rattle.rules.specs.Levels.{Level}
 use Rattle.rules.specs.Graphs.{Graph, variable_degree}
 use Rattle.rules.specs.Nodes.{signed, contribution, odd, extra, channel_part, share, posterior, outgoing_sum}
 use Rattle.rules.specs.Theorems.{OutgoingIsRest, OutgoingOdd}
-use Rattle.rules.proofs.Ranges.{Monoid, fold-ext, fold-map, fold-but}
-use Rattle.rules.proofs.Signs.{xor-not, xor-false, xor_self, false-xor, xor-zero}
+use Rattle.rules.proofs.Ranges.{Monoid, fold_ext, fold_map, fold_but}
+use Rattle.rules.proofs.Signs.{xor_not, xor_false, xor_self, false_xor, xor_zero}
 
-pub sum-monoid : Monoid ◌+ℤ◌ (pos 0)
-sum-monoid = record { assoc = +ℤ_assoc; comm = +ℤ_comm; idr = +ℤ_idr }
+pub sum_monoid : Monoid ◌+ℤ◌ (pos 0)
+sum_monoid = record { assoc = +ℤ_assoc; comm = +ℤ_comm; idr = +ℤ_idr }
 
 -- ---- the parity of a number
 
 oddℤ : ℤ → Bool
 oddℤ s = odd (nat_abs s)
 
-not-not : (b : Bool) → not (not b) ≡ b
-not-not true = refl
-not-not false = refl
+not_not : (b : Bool) → not (not b) ≡ b
+not_not true = refl
+not_not false = refl
 
 odd-sucℤ : (s : ℤ) → oddℤ (suc_ℤ s) ≡ not (oddℤ s)
 unfolding oddℤ odd
 odd-sucℤ (pos n) = refl
 odd-sucℤ (negsuc zero) = refl
-odd-sucℤ (negsuc (suc n)) = sym (not-not (not (odd n)))
+odd-sucℤ (negsuc (suc n)) = sym (not_not (not (odd n)))
 
 odd-predℤ : (s : ℤ) → oddℤ (pred_ℤ s) ≡ not (oddℤ s)
 unfolding oddℤ odd
 odd-predℤ (pos zero) = refl
-odd-predℤ (pos (suc n)) = sym (not-not (odd n))
+odd-predℤ (pos (suc n)) = sym (not_not (odd n))
 odd-predℤ (negsuc n) = refl
 
-odd-sum : (x y : ℤ) → oddℤ (x +ℤ y) ≡ xor (oddℤ x) (oddℤ y)
+odd_sum : (x y : ℤ) → oddℤ (x +ℤ y) ≡ xor (oddℤ x) (oddℤ y)
 unfolding oddℤ odd
-odd-sum x (pos zero) = ap oddℤ (+ℤ_idr x) ∙ sym (xor-false (oddℤ x))
-odd-sum x (pos (suc n)) = ap oddℤ (+ℤ-suc_ℤ x (pos n)) ∙ odd-sucℤ (x +ℤ pos n) ∙ ap not (odd-sum x (pos n)) ∙ sym (xor-not (oddℤ x) (odd n))
-odd-sum x (negsuc zero) = ap oddℤ (+ℤ-pred_ℤ x (pos 0) ∙ ap pred_ℤ (+ℤ_idr x)) ∙ odd-predℤ x ∙ ap not (sym (xor-false (oddℤ x))) ∙ sym (xor-not (oddℤ x) false)
-odd-sum x (negsuc (suc n)) = ap oddℤ (+ℤ-pred_ℤ x (negsuc n)) ∙ odd-predℤ (x +ℤ negsuc n) ∙ ap not (odd-sum x (negsuc n)) ∙ sym (xor-not (oddℤ x) (not (odd n)))
+odd_sum x (pos zero) = ap oddℤ (+ℤ_idr x) ∙ sym (xor_false (oddℤ x))
+odd_sum x (pos (suc n)) = ap oddℤ (+ℤ-suc_ℤ x (pos n)) ∙ odd-sucℤ (x +ℤ pos n) ∙ ap not (odd_sum x (pos n)) ∙ sym (xor_not (oddℤ x) (odd n))
+odd_sum x (negsuc zero) = ap oddℤ (+ℤ-pred_ℤ x (pos 0) ∙ ap pred_ℤ (+ℤ_idr x)) ∙ odd-predℤ x ∙ ap not (sym (xor_false (oddℤ x))) ∙ sym (xor_not (oddℤ x) false)
+odd_sum x (negsuc (suc n)) = ap oddℤ (+ℤ-pred_ℤ x (negsuc n)) ∙ odd-predℤ (x +ℤ negsuc n) ∙ ap not (odd_sum x (negsuc n)) ∙ sym (xor_not (oddℤ x) (not (odd n)))
 
-odd-add : (m n : ℕ) → odd (m + n) ≡ xor (odd m) (odd n)
+odd_add : (m n : ℕ) → odd (m + n) ≡ xor (odd m) (odd n)
 unfolding oddℤ
-odd-add m n = odd-sum (pos m) (pos n)
+odd_add m n = odd_sum (pos m) (pos n)
 
-odd-signed : (b : Bool) (n : ℕ) → oddℤ (signed b n) ≡ odd n
+odd_signed : (b : Bool) (n : ℕ) → oddℤ (signed b n) ≡ odd n
 unfolding oddℤ
-odd-signed false n = refl
-odd-signed true zero = refl
-odd-signed true (suc n) = refl
+odd_signed false n = refl
+odd_signed true zero = refl
+odd_signed true (suc n) = refl
 
 -- a contribution s(2M + e) is as odd as e
-odd-contribution : (e : ℕ) (l : Level) → oddℤ (contribution e l) ≡ odd e
+odd_contribution : (e : ℕ) (l : Level) → oddℤ (contribution e l) ≡ odd e
 unfolding contribution
-odd-contribution e l = odd-signed l.minus (2 * l.magnitude + e) ∙ even l.magnitude
+odd_contribution e l = odd_signed l.minus (2 * l.magnitude + e) ∙ even l.magnitude
   where
     even : (m : ℕ) → odd (2 * m + e) ≡ odd e
-    even m = ap odd twice ∙ odd-add (m + m) e ∙ ap (λ b. xor b (odd e)) (odd-add m m ∙ xor_self (odd m)) ∙ false-xor (odd e)
+    even m = ap odd twice ∙ odd_add (m + m) e ∙ ap (λ b. xor b (odd e)) (odd_add m m ∙ xor_self (odd m)) ∙ false_xor (odd e)
       where
         twice : 2 * m + e ≡ m + m + e
         twice = omega arith
 
 -- e is as odd as the degree
-odd-extra : (d : ℕ) → odd (extra d) ≡ odd d
+odd_extra : (d : ℕ) → odd (extra d) ≡ odd d
 unfolding extra odd
-odd-extra d = go (eqb d 2) refl
+odd_extra d = go (eqb d 2) refl
   where
     parity : (b : Bool) → odd (cond b 1 2) ≡ b
     parity true = refl
@@ -80,68 +80,68 @@ odd-extra d = go (eqb d 2) refl
     go true p = ap odd (sym (eqb-true d 2 p))
     go false p = parity (odd d)
 
-odd-one : (b : Bool) → odd (one b) ≡ b
+odd_one : (b : Bool) → odd (one b) ≡ b
 unfolding odd
-odd-one true = refl
-odd-one false = refl
+odd_one true = refl
+odd_one false = refl
 
 -- ---- the parity of sums
 
 module _ (G : Graph) (y C : ℕ → Level) where
-  odd-share : (v k : ℕ) → oddℤ (share G C v k) ≡ eqb (G.column k) v
+  odd_share : (v k : ℕ) → oddℤ (share G C v k) ≡ eqb (G.column k) v
   unfolding share oddℤ odd
-  odd-share v k = go (eqb (G.column k) v)
+  odd_share v k = go (eqb (G.column k) v)
     where
       go : (b : Bool) → oddℤ (cond b (contribution 1 (C k)) (pos 0)) ≡ b
-      go true = odd-contribution 1 (C k)
+      go true = odd_contribution 1 (C k)
       go false = refl
 
-  posterior-even : (v : ℕ) → oddℤ (posterior G y C v) ≡ false
+  posterior_even : (v : ℕ) → oddℤ (posterior G y C v) ≡ false
   unfolding posterior channel_part variable_degree count oddℤ odd
-  posterior-even v =
-      odd-sum (channel_part G y v) (fold ◌+ℤ◌ (pos 0) (share G C v) 0 G.entries) ∙ ap₂ xor channel shares ∙ xor_self (odd d)
+  posterior_even v =
+      odd_sum (channel_part G y v) (fold ◌+ℤ◌ (pos 0) (share G C v) 0 G.entries) ∙ ap₂ xor channel shares ∙ xor_self (odd d)
     where
       d : ℕ
       d = variable_degree G v
 
       channel : oddℤ (channel_part G y v) ≡ odd d
-      channel = odd-contribution (extra d) (y v) ∙ odd-extra d
+      channel = odd_contribution (extra d) (y v) ∙ odd_extra d
 
       shares : oddℤ (fold ◌+ℤ◌ (pos 0) (share G C v) 0 G.entries) ≡ odd d
-      shares = fold-map ◌+ℤ◌ (pos 0) xor false oddℤ refl odd-sum (share G C v) 0 G.entries
-          ∙ fold-ext xor false (λ k. oddℤ (share G C v k)) (λ k. odd (one (eqb (G.column k) v))) 0 G.entries
-          (λ k l u. odd-share v k ∙ sym (odd-one (eqb (G.column k) v)))
-          ∙ sym (fold-map ◌+◌ 0 xor false odd refl odd-add (λ k. one (eqb (G.column k) v)) 0 G.entries)
+      shares = fold_map ◌+ℤ◌ (pos 0) xor false oddℤ refl odd_sum (share G C v) 0 G.entries
+          ∙ fold_ext xor false (λ k. oddℤ (share G C v k)) (λ k. odd (one (eqb (G.column k) v))) 0 G.entries
+          (λ k l u. odd_share v k ∙ sym (odd_one (eqb (G.column k) v)))
+          ∙ sym (fold_map ◌+◌ 0 xor false odd refl odd_add (λ k. one (eqb (G.column k) v)) 0 G.entries)
 
   -- the posterior sum is the outgoing sum and the own part
-  outgoing-own : (e : ℕ) → e < G.entries → posterior G y C (G.column e) ≡ outgoing_sum G y C e +ℤ share G C (G.column e) e
+  outgoing_own : (e : ℕ) → e < G.entries → posterior G y C (G.column e) ≡ outgoing_sum G y C e +ℤ share G C (G.column e) e
   unfolding posterior outgoing_sum
-  outgoing-own e h =
-      ap (channel_part G y v +ℤ◌) (fold-but ◌+ℤ◌ (pos 0) sum-monoid e (share G C v) 0 G.entries (omega arith) (omega arith))
+  outgoing_own e h =
+      ap (channel_part G y v +ℤ◌) (fold_but ◌+ℤ◌ (pos 0) sum_monoid e (share G C v) 0 G.entries (omega arith) (omega arith))
       ∙ sym (+ℤ_assoc (channel_part G y v) (fold ◌+ℤ◌ (pos 0) (but (pos 0) e (share G C v)) 0 G.entries) (share G C v e))
     where
       v : ℕ
       v = G.column e
 
-  share-own : (e : ℕ) → share G C (G.column e) e ≡ contribution 1 (C e)
+  share_own : (e : ℕ) → share G C (G.column e) e ≡ contribution 1 (C e)
   unfolding share
-  share-own e = rw (eq-eqb (G.column e) (G.column e) refl)
+  share_own e = rw (eq-eqb (G.column e) (G.column e) refl)
 
-pub outgoing-is-rest : OutgoingIsRest
-outgoing-is-rest G y C e h =
+pub outgoing_is_rest : OutgoingIsRest
+outgoing_is_rest G y C e h =
     sym (+ℤ-neg_ℤ_cancel (outgoing_sum G y C e) (contribution 1 (C e)))
-    ∙ ap (λ s. s -ℤ contribution 1 (C e)) (sym (outgoing-own G y C e h ∙ ap (outgoing_sum G y C e +ℤ◌) (share-own G y C e)))
+    ∙ ap (λ s. s -ℤ contribution 1 (C e)) (sym (outgoing_own G y C e h ∙ ap (outgoing_sum G y C e +ℤ◌) (share_own G y C e)))
 
-pub outgoing-odd : OutgoingOdd
+pub outgoing_odd : OutgoingOdd
 unfolding oddℤ
-outgoing-odd G y C e h =
-    xor-zero (oddℤ (outgoing_sum G y C e)) (oddℤ own)
-    (sym (odd-sum (outgoing_sum G y C e) own) ∙ ap oddℤ (sym (outgoing-own G y C e h)) ∙ posterior-even G y C (G.column e))
-    ∙ odd-share G y C (G.column e) e ∙ eq-eqb (G.column e) (G.column e) refl
+outgoing_odd G y C e h =
+    xor_zero (oddℤ (outgoing_sum G y C e)) (oddℤ own)
+    (sym (odd_sum (outgoing_sum G y C e) own) ∙ ap oddℤ (sym (outgoing_own G y C e h)) ∙ posterior_even G y C (G.column e))
+    ∙ odd_share G y C (G.column e) e ∙ eq-eqb (G.column e) (G.column e) refl
   where
     own : ℤ
     own = share G C (G.column e) e
 
-pub outgoing-nonzero : (G : Graph) (y C : ℕ → Level) (e : ℕ) → e < G.entries → outgoing_sum G y C e ≢ pos 0
+pub outgoing_nonzero : (G : Graph) (y C : ℕ → Level) (e : ℕ) → e < G.entries → outgoing_sum G y C e ≢ pos 0
 unfolding odd
-outgoing-nonzero G y C e h p = true≢false (sym (outgoing-odd G y C e h) ∙ ap (λ s. odd (nat_abs s)) p)
+outgoing_nonzero G y C e h p = true≢false (sym (outgoing_odd G y C e h) ∙ ap (λ s. odd (nat_abs s)) p)

@@ -16,35 +16,35 @@ use Rattle.rules.specs.Ranges.{fold, but, one, count, joined, tabulate, first}
 -- ---- folds
 
 module _ {A : Type 0} (op : A → A → A) (z : A) where
-  pub fold-none : (f : ℕ → A) (a : ℕ) → fold op z f a 0 ≡ z
+  pub fold_none : (f : ℕ → A) (a : ℕ) → fold op z f a 0 ≡ z
   unfolding fold
-  fold-none f a = refl
+  fold_none f a = refl
 
   -- one number more, as a loop that counts from 0 passes it
   pub fold_next : (f : ℕ → A) (n : ℕ) → fold op z f 0 (n + 1) ≡ op (fold op z f 0 n) (f n)
   unfolding fold
   fold_next f n = rw (add-one n) (ap (λ k. op (fold op z f 0 n) (f k)) (zero-add n))
 
-  pub fold-ext : (f g : ℕ → A) (a n : ℕ) → ((k : ℕ) → a ≤ k → k < a + n → f k ≡ g k) → fold op z f a n ≡ fold op z g a n
+  pub fold_ext : (f g : ℕ → A) (a n : ℕ) → ((k : ℕ) → a ≤ k → k < a + n → f k ≡ g k) → fold op z f a n ≡ fold op z g a n
   unfolding fold
-  fold-ext f g a zero h = refl
-  fold-ext f g a (suc n) h = ap₂ op (fold-ext f g a n (λ k l u. h k l (omega arith))) (h (a + n) (omega arith) (omega arith))
+  fold_ext f g a zero h = refl
+  fold_ext f g a (suc n) h = ap₂ op (fold_ext f g a n (λ k l u. h k l (omega arith))) (h (a + n) (omega arith) (omega arith))
 
 -- a map that respects the operations goes under the fold
-pub fold-map : {A B : Type 0} (op : A → A → A) (z : A) (op' : B → B → B) (z' : B) (h : A → B) → h z ≡ z'
+pub fold_map : {A B : Type 0} (op : A → A → A) (z : A) (op' : B → B → B) (z' : B) (h : A → B) → h z ≡ z'
     → ((x y : A) → h (op x y) ≡ op' (h x) (h y)) → (f : ℕ → A) (a n : ℕ) → h (fold op z f a n) ≡ fold op' z' (λ k. h (f k)) a n
 unfolding fold
-fold-map op z op' z' h hz hop f a zero = hz
-fold-map op z op' z' h hz hop f a (suc n) =
-    hop (fold op z f a n) (f (a + n)) ∙ ap (λ x. op' x (h (f (a + n)))) (fold-map op z op' z' h hz hop f a n)
+fold_map op z op' z' h hz hop f a zero = hz
+fold_map op z op' z' h hz hop f a (suc n) =
+    hop (fold op z f a n) (f (a + n)) ∙ ap (λ x. op' x (h (f (a + n)))) (fold_map op z op' z' h hz hop f a n)
 
 pub but_same : {A : Type 0} (z : A) (e : ℕ) (f : ℕ → A) → but z e f e ≡ z
 unfolding but
 but_same z e f = rw (eq-eqb e e refl)
 
-pub but-other : {A : Type 0} (z : A) (e : ℕ) (f : ℕ → A) (k : ℕ) → k ≢ e → but z e f k ≡ f k
+pub but_other : {A : Type 0} (z : A) (e : ℕ) (f : ℕ → A) (k : ℕ) → k ≢ e → but z e f k ≡ f k
 unfolding but
-but-other z e f k h = rw (ne_eqb k e h)
+but_other z e f k h = rw (ne_eqb k e h)
 
 pub record Monoid {A : Type 0} (op : A → A → A) (z : A) : Type 0 where
   pub assoc : (x y w : A) → op (op x y) w ≡ op x (op y w)
@@ -58,26 +58,26 @@ module _ {A : Type 0} (op : A → A → A) (z : A) (M : Monoid op z) where
       ∙ sym (M.assoc x u (op y v))
 
   -- the fold of two combined functions
-  pub fold-both : (f g : ℕ → A) (a n : ℕ) → fold op z (λ k. op (f k) (g k)) a n ≡ op (fold op z f a n) (fold op z g a n)
+  pub fold_both : (f g : ℕ → A) (a n : ℕ) → fold op z (λ k. op (f k) (g k)) a n ≡ op (fold op z f a n) (fold op z g a n)
   unfolding fold
-  fold-both f g a zero = sym (M.idr z)
-  fold-both f g a (suc n) =
-      ap (λ x. op x (op (f (a + n)) (g (a + n)))) (fold-both f g a n)
+  fold_both f g a zero = sym (M.idr z)
+  fold_both f g a (suc n) =
+      ap (λ x. op x (op (f (a + n)) (g (a + n)))) (fold_both f g a n)
       ∙ swap_mid (fold op z f a n) (fold op z g a n) (f (a + n)) (g (a + n))
 
   -- one number taken out and put back
-  pub fold-but : (e : ℕ) (f : ℕ → A) (a n : ℕ) → a ≤ e → e < a + n → fold op z f a n ≡ op (fold op z (but z e f) a n) (f e)
+  pub fold_but : (e : ℕ) (f : ℕ → A) (a n : ℕ) → a ≤ e → e < a + n → fold op z f a n ≡ op (fold op z (but z e f) a n) (f e)
   unfolding fold
-  fold-but e f a zero l u = absurd (omega arith)
-  fold-but e f a (suc n) l u = go (ℕ_discrete (a + n) e) (fold-but e f a n l)
+  fold_but e f a zero l u = absurd (omega arith)
+  fold_but e f a (suc n) l u = go (ℕ_discrete (a + n) e) (fold_but e f a n l)
     where
       go : Dec (a + n ≡ e) → (e < a + n → fold op z f a n ≡ op (fold op z (but z e f) a n) (f e))
           → op (fold op z f a n) (f (a + n)) ≡ op (op (fold op z (but z e f) a n) (but z e f (a + n))) (f e)
       go (yes q) ih =
-          rw (q, but_same z e f, M.idr (fold op z (but z e f) a n), fold-ext op z (but z e f) f a n (λ k lo hi. but-other z e f k (omega arith)))
+          rw (q, but_same z e f, M.idr (fold op z (but z e f) a n), fold_ext op z (but z e f) f a n (λ k lo hi. but_other z e f k (omega arith)))
       go (no q) ih =
           rw (
-            but-other z e f (a + n) q,
+            but_other z e f (a + n) q,
             ih (omega arith),
             M.assoc (fold op z (but z e f) a n) (f e) (f (a + n)),
             M.assoc (fold op z (but z e f) a n) (f (a + n)) (f e),
@@ -85,18 +85,18 @@ module _ {A : Type 0} (op : A → A → A) (z : A) (M : Monoid op z) where
           )
 
 -- numbered from a, or from 0
-pub fold-shift : {A : Type 0} (op : A → A → A) (z : A) (f : ℕ → A) (a n : ℕ) → fold op z f a n ≡ fold op z (λ k. f (a + k)) 0 n
+pub fold_shift : {A : Type 0} (op : A → A → A) (z : A) (f : ℕ → A) (a n : ℕ) → fold op z f a n ≡ fold op z (λ k. f (a + k)) 0 n
 unfolding fold
-fold-shift op z f a zero = refl
-fold-shift op z f a (suc n) = ap₂ op (fold-shift op z f a n) (ap (λ k. f (a + k)) (sym (zero-add n)))
+fold_shift op z f a zero = refl
+fold_shift op z f a (suc n) = ap₂ op (fold_shift op z f a n) (ap (λ k. f (a + k)) (sym (zero-add n)))
 
 -- ---- the least
 
 module _ (f : ℕ → ℕ) (z a : ℕ) where
-  pub least-below : (n k : ℕ) → a ≤ k → k < a + n → fold min z f a n ≤ f k
+  pub least_below : (n k : ℕ) → a ≤ k → k < a + n → fold min z f a n ≤ f k
   unfolding fold
-  least-below zero k l u = absurd (omega arith)
-  least-below (suc n) k l u = go (ℕ_discrete k (a + n)) (least-below n k l)
+  least_below zero k l u = absurd (omega arith)
+  least_below (suc n) k l u = go (ℕ_discrete k (a + n)) (least_below n k l)
     where
       go : Dec (k ≡ a + n) → (k < a + n → fold min z f a n ≤ f k) → min (fold min z f a n) (f (a + n)) ≤ f k
       go (yes p) ih = rw p (omega arith)
@@ -106,35 +106,35 @@ module _ (f : ℕ → ℕ) (z a : ℕ) where
 
 pub count_none : (test : ℕ → Bool) → count test 0 0 ≡ 0
 unfolding count
-count_none test = fold-none ◌+◌ 0 (λ k. one (test k)) 0
+count_none test = fold_none ◌+◌ 0 (λ k. one (test k)) 0
 
 pub count_next : (test : ℕ → Bool) (n : ℕ) → count test 0 (n + 1) ≡ count test 0 n + one (test n)
 unfolding count
 count_next test n = fold_next ◌+◌ 0 (λ k. one (test k)) n
 
-pub count-ext : (f g : ℕ → Bool) (n : ℕ) → ((k : ℕ) → k < n → f k ≡ g k) → count f 0 n ≡ count g 0 n
+pub count_ext : (f g : ℕ → Bool) (n : ℕ) → ((k : ℕ) → k < n → f k ≡ g k) → count f 0 n ≡ count g 0 n
 unfolding count
-count-ext f g n h = fold-ext ◌+◌ 0 (λ k. one (f k)) (λ k. one (g k)) 0 n (λ k l u. ap one (h k (omega arith)))
+count_ext f g n h = fold_ext ◌+◌ 0 (λ k. one (f k)) (λ k. one (g k)) 0 n (λ k l u. ap one (h k (omega arith)))
 
-one-le : (b : Bool) → one b ≤ 1
-one-le true = omega arith
-one-le false = omega arith
+one_le : (b : Bool) → one b ≤ 1
+one_le true = omega arith
+one_le false = omega arith
 
-pub count-le : (test : ℕ → Bool) (a n : ℕ) → count test a n ≤ n
+pub count_le : (test : ℕ → Bool) (a n : ℕ) → count test a n ≤ n
 unfolding count fold
-count-le test a zero = omega arith
-count-le test a (suc n) = omega (arith, count-le test a n, one-le (test (a + n)))
+count_le test a zero = omega arith
+count_le test a (suc n) = omega (arith, count_le test a n, one_le (test (a + n)))
 
 -- nothing is counted exactly when every test fails
-pub count-zero : (test : ℕ → Bool) (n : ℕ) → ((k : ℕ) → k < n → test k ≡ false) → count test 0 n ≡ 0
+pub count_zero : (test : ℕ → Bool) (n : ℕ) → ((k : ℕ) → k < n → test k ≡ false) → count test 0 n ≡ 0
 unfolding count fold
-count-zero test zero h = refl
-count-zero test (suc n) h = omega (arith, count-zero test n (λ k l. h k (omega arith)), ap one (h (0 + n) (omega arith)))
+count_zero test zero h = refl
+count_zero test (suc n) h = omega (arith, count_zero test n (λ k l. h k (omega arith)), ap one (h (0 + n) (omega arith)))
 
-pub zero-count : (test : ℕ → Bool) (n : ℕ) → count test 0 n ≡ 0 → (k : ℕ) → k < n → test k ≡ false
+pub zero_count : (test : ℕ → Bool) (n : ℕ) → count test 0 n ≡ 0 → (k : ℕ) → k < n → test k ≡ false
 unfolding count fold
-zero-count test zero e k l = absurd (omega arith)
-zero-count test (suc n) e k l = go (ℕ_discrete k n) (zero-count test n (omega arith) k)
+zero_count test zero e k l = absurd (omega arith)
+zero_count test (suc n) e k l = go (ℕ_discrete k n) (zero_count test n (omega arith) k)
   where
     none : (b : Bool) → one b ≡ 0 → b ≡ false
     none true h = absurd (omega arith)
@@ -152,10 +152,10 @@ pub record First (test : ℕ → Bool) (t n r : ℕ) : Type 0 where
   pub before : (k : ℕ) → t ≤ k → k < r → test k ≡ false
   pub found : r < t + n → test r ≡ true
 
-pub first-is : (test : ℕ → Bool) (t n : ℕ) → First test t n (first test t n)
+pub first_is : (test : ℕ → Bool) (t n : ℕ) → First test t n (first test t n)
 unfolding first
-first-is test t zero = record { low = omega arith; high = omega arith; before = λ k l u. absurd (omega arith); found = λ u. absurd (omega arith) }
-first-is test t (suc n) = go (test t) refl (first-is test (suc t) n)
+first_is test t zero = record { low = omega arith; high = omega arith; before = λ k l u. absurd (omega arith); found = λ u. absurd (omega arith) }
+first_is test t (suc n) = go (test t) refl (first_is test (suc t) n)
   where
     go : (b : Bool) → test t ≡ b → First test (suc t) n (first test (suc t) n) → First test t (suc n) (cond b t (first test (suc t) n))
     go true p f = record { low = omega arith; high = omega arith; before = λ k l u. absurd (omega arith); found = λ u. p }
@@ -171,8 +171,8 @@ first-is test t (suc n) = go (test t) refl (first-is test (suc t) n)
         earlier k l u (no q) = f.before k (omega arith) u
 
 -- two numbers that are first are equal
-pub first-only : {test : ℕ → Bool} {t n r s : ℕ} → First test t n r → First test t n s → r ≡ s
-first-only {test} {t} {n} {r} {s} a b = go (dec_lt r s) (dec_lt s r)
+pub first_only : {test : ℕ → Bool} {t n r s : ℕ} → First test t n r → First test t n s → r ≡ s
+first_only {test} {t} {n} {r} {s} a b = go (dec_lt r s) (dec_lt s r)
   where
     clash : (b : Bool) → b ≡ true → b ≡ false → ⊥
     clash b p q = let z : ◌≡◌ {A = Bool} true false = sym p ∙ q in let y : ◌≡◌ {A = ℕ} 0 1 = cc in absurd (omega arith)
@@ -185,63 +185,63 @@ first-only {test} {t} {n} {r} {s} a b = go (dec_lt r s) (dec_lt s r)
     go (no p) (yes q) = absurd (less b a q)
     go (no p) (no q) = omega arith
 
-pub first-ext : (f g : ℕ → Bool) → ((t : ℕ) → f t ≡ g t) → (t n : ℕ) → first f t n ≡ first g t n
+pub first_ext : (f g : ℕ → Bool) → ((t : ℕ) → f t ≡ g t) → (t n : ℕ) → first f t n ≡ first g t n
 unfolding first
-first-ext f g h t zero = refl
-first-ext f g h t (suc n) = rw (h t, first-ext f g h (suc t) n)
+first_ext f g h t zero = refl
+first_ext f g h t (suc n) = rw (h t, first_ext f g h (suc t) n)
 
 -- ---- lists
 
 module _ {A : Type 0} where
-  pub joined-none : (f : ℕ → List A) (l : List A) → l ≡ joined f 0 ++ l
+  pub joined_none : (f : ℕ → List A) (l : List A) → l ≡ joined f 0 ++ l
   unfolding joined
-  joined-none f l = refl
+  joined_none f l = refl
 
-  pub joined-ext : (f g : ℕ → List A) (n : ℕ) → ((k : ℕ) → k < n → f k ≡ g k) → joined f n ≡ joined g n
+  pub joined_ext : (f g : ℕ → List A) (n : ℕ) → ((k : ℕ) → k < n → f k ≡ g k) → joined f n ≡ joined g n
   unfolding joined
-  joined-ext f g zero h = refl
-  joined-ext f g (suc n) h = ap₂ ◌++◌ (joined-ext f g n (λ k l. h k (omega arith))) (h n (omega arith))
+  joined_ext f g zero h = refl
+  joined_ext f g (suc n) h = ap₂ ◌++◌ (joined_ext f g n (λ k l. h k (omega arith))) (h n (omega arith))
 
   module _ (w : ℕ) (f : ℕ → List A) (wide : (k : ℕ) → length (f k) ≡ w) where
-    pub length-joined : (n : ℕ) → length (joined f n) ≡ w * n
+    pub length_joined : (n : ℕ) → length (joined f n) ≡ w * n
     unfolding joined
-    length-joined zero = sym (mul-zero w)
-    length-joined (suc n) = length-append (joined f n) (f n) ∙ omega (arith, length-joined n, wide n)
+    length_joined zero = sym (mul-zero w)
+    length_joined (suc n) = length-append (joined f n) (f n) ∙ omega (arith, length_joined n, wide n)
 
     -- element r of list j, whatever follows
-    pub get_or-joined : (n : ℕ) (t : List A) (j r : ℕ) (d : A) → j < n → r < w → get_or (joined f n ++ t) (w * j + r) d ≡ get_or (f j) r d
+    pub get_or_joined : (n : ℕ) (t : List A) (j r : ℕ) (d : A) → j < n → r < w → get_or (joined f n ++ t) (w * j + r) d ≡ get_or (f j) r d
     unfolding joined
-    get_or-joined zero t j r d l h = absurd (omega arith)
-    get_or-joined (suc n) t j r d l h = rw append_assoc (⊎_elim here (λ e. get_or-joined n (f n ++ t) j r d e h) (eq-or-lt_of_le (le_of_suc-le-suc l)))
+    get_or_joined zero t j r d l h = absurd (omega arith)
+    get_or_joined (suc n) t j r d l h = rw append_assoc (⊎_elim here (λ e. get_or_joined n (f n ++ t) j r d e h) (eq-or-lt_of_le (le_of_suc-le-suc l)))
       where
         here : j ≡ n → get_or (joined f n ++ (f n ++ t)) (w * j + r) d ≡ get_or (f j) r d
         here e = subst⁻¹ (λ (x : ℕ). get_or (joined f n ++ (f n ++ t)) (w * x + r) d ≡ get_or (f x) r d) e
-            (rw (← length-joined n, get_or-append-add) (get_or-append (f n) t d r (omega (arith, wide n))))
+            (rw (← length_joined n, get_or-append-add) (get_or-append (f n) t d r (omega (arith, wide n))))
 
-  pub length-tabulate : (f : ℕ → A) (n : ℕ) → length (tabulate f n) ≡ n
+  pub length_tabulate : (f : ℕ → A) (n : ℕ) → length (tabulate f n) ≡ n
   unfolding tabulate
-  length-tabulate f n = length-joined 1 (λ k. f k ∷ []) (λ k. refl) n ∙ omega arith
+  length_tabulate f n = length_joined 1 (λ k. f k ∷ []) (λ k. refl) n ∙ omega arith
 
-  pub tabulate-none : (f : ℕ → A) (l : List A) → l ≡ tabulate f 0 ++ l
+  pub tabulate_none : (f : ℕ → A) (l : List A) → l ≡ tabulate f 0 ++ l
   unfolding tabulate
-  tabulate-none f l = joined-none (λ k. f k ∷ []) l
+  tabulate_none f l = joined_none (λ k. f k ∷ []) l
 
-  pub tabulate-ext : (f g : ℕ → A) (n : ℕ) → ((k : ℕ) → k < n → f k ≡ g k) → tabulate f n ≡ tabulate g n
+  pub tabulate_ext : (f g : ℕ → A) (n : ℕ) → ((k : ℕ) → k < n → f k ≡ g k) → tabulate f n ≡ tabulate g n
   unfolding tabulate
-  tabulate-ext f g n h = joined-ext (λ k. f k ∷ []) (λ k. g k ∷ []) n (λ k l. ap (λ x. x ∷ []) (h k l))
+  tabulate_ext f g n h = joined_ext (λ k. f k ∷ []) (λ k. g k ∷ []) n (λ k l. ap (λ x. x ∷ []) (h k l))
 
   pub get_d_front : (f : ℕ → A) (n : ℕ) (t : List A) (j : ℕ) (d : A) → j < n → get_or (tabulate f n ++ t) j d ≡ f j
   unfolding tabulate
   get_d_front f n t j d l =
       ap (λ (k : ℕ). get_or (joined (λ k. f k ∷ []) n ++ t) k d) (omega arith)
-      ∙ get_or-joined 1 (λ k. f k ∷ []) (λ k. refl) n t j 0 d l (omega arith)
+      ∙ get_or_joined 1 (λ k. f k ∷ []) (λ k. refl) n t j 0 d l (omega arith)
 
   pub get_d_tabulate : (f : ℕ → A) (n j : ℕ) (d : A) → j < n → get_or (tabulate f n) j d ≡ f j
   get_d_tabulate f n j d l = ap (λ x. get_or x j d) (sym (append-nil (tabulate f n))) ∙ get_d_front f n [] j d l
 
   -- a loop that fills a list: one place more
-  pub tabulate-more : (f : ℕ → A) (old : List A) (i : ℕ) → i < length old
+  pub tabulate_more : (f : ℕ → A) (old : List A) (i : ℕ) → i < length old
       → set (tabulate f i ++ drop i old) i (f i) ≡ tabulate f (i + 1) ++ drop (i + 1) old
   unfolding tabulate joined
-  tabulate-more f old i l =
-      rw (drop-cons old i (f i) l, set_at (tabulate f i) (get_or old i (f i)) (drop (suc i) old) (f i) i (length-tabulate f i), add-one i, append_assoc)
+  tabulate_more f old i l =
+      rw (drop-cons old i (f i) l, set_at (tabulate f i) (get_or old i (f i)) (drop (suc i) old) (f i) i (length_tabulate f i), add-one i, append_assoc)

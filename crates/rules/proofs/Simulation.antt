@@ -14,21 +14,21 @@ use Rattle.rules.specs.Sequence.{Scheme, State, level_at, begun, sent_in, sent, 
 use Rattle.rules.proofs.Ranges.{get_d_tabulate}
 
 module _ (G : Graph) (R : Scheme) where
-  pub state-number : (t : ℕ) → (state G R t).iteration ≡ t
+  pub state_number : (t : ℕ) → (state G R t).iteration ≡ t
   unfolding state begun next iterated
-  state-number zero = refl
-  state-number (suc t) = ap suc (state-number t)
+  state_number zero = refl
+  state_number (suc t) = ap suc (state_number t)
 
   -- the sums of iteration t + 1, and what is sent in it
-  pub sum-at : (t v : ℕ) → v < G.variables → get_or (state G R (suc t)).sums v (pos 0) ≡ R.sum (suc t) (level_at (state G R (suc t)).check_messages) v
+  pub sum_at_lem : (t v : ℕ) → v < G.variables → get_or (state G R (suc t)).sums v (pos 0) ≡ R.sum (suc t) (level_at (state G R (suc t)).check_messages) v
   unfolding state next iterated
-  sum-at t v u =
+  sum_at_lem t v u =
       let C : ℕ → Level = level_at (state G R (suc t)).check_messages in
-      get_d_tabulate (R.sum (suc (state G R t).iteration) C) G.variables v (pos 0) u ∙ ap (λ k. R.sum (suc k) C v) (state-number t)
+      get_d_tabulate (R.sum (suc (state G R t).iteration) C) G.variables v (pos 0) u ∙ ap (λ k. R.sum (suc k) C v) (state_number t)
 
   pub sent_is : (t : ℕ) → sent G R (state G R (suc t)) ≡ tabulate (R.variable (suc t) (level_at (state G R (suc t)).check_messages)) G.entries
   unfolding state next iterated sent sent_in
-  sent_is t = ap (λ k. tabulate (R.variable (suc k) (level_at (state G R (suc t)).check_messages)) G.entries) (state-number t)
+  sent_is t = ap (λ k. tabulate (R.variable (suc k) (level_at (state G R (suc t)).check_messages)) G.entries) (state_number t)
 
 module _ (G G' : Graph) (R R' : Scheme) (σ π : ℕ → ℕ) (turn : ℕ → Level → Level) (flip : ℕ → ℤ → ℤ) where
   -- the messages q' of the second are those of the first, turned
@@ -55,18 +55,18 @@ module _ (G G' : Graph) (R R' : Scheme) (σ π : ℕ → ℕ) (turn : ℕ → Le
     tables f f' h e u =
         get_d_tabulate f' G'.entries (σ e) plus_zero (T.entries e u) ∙ h e u ∙ ap (turn e) (sym (get_d_tabulate f G.entries e plus_zero u))
 
-    begun-mirrors : Mirrors (begun G R) (begun G' R')
+    begun_mirrors : Mirrors (begun G R) (begun G' R')
     unfolding begun sent sent_in
-    begun-mirrors = record {
+    begun_mirrors = record {
       iteration = refl;
       variable_messages = tables R.first_message R'.first_message T.first_message;
       check_messages = λ h. absurd (omega arith);
       sums = λ h. absurd (omega arith);
     }
 
-    next-mirrors : (s s' : State) → Mirrors s s' → Mirrors (next G R s) (next G' R' s')
+    next_mirrors : (s s' : State) → Mirrors s s' → Mirrors (next G R s) (next G' R' s')
     unfolding next iterated sent sent_in
-    next-mirrors s s' m = record {
+    next_mirrors s s' m = record {
       iteration = ap suc m.iteration;
       variable_messages = tables (R.variable t (level_at C)) (R'.variable t' (level_at C'))
           (λ e u. ap (λ k. R'.variable (suc k) (level_at C') (σ e)) m.iteration ∙ T.variable t (level_at C) (level_at C') back e u);
@@ -99,7 +99,7 @@ module _ (G G' : Graph) (R R' : Scheme) (σ π : ℕ → ℕ) (turn : ℕ → Le
         back = tables (R.check q) (R'.check q') (T.check q q' m.variable_messages)
 
     -- all iterations
-    pub states-mirror : (t : ℕ) → Mirrors (state G R t) (state G' R' t)
+    pub states_mirror : (t : ℕ) → Mirrors (state G R t) (state G' R' t)
     unfolding state
-    states-mirror zero = begun-mirrors
-    states-mirror (suc t) = next-mirrors (state G R t) (state G' R' t) (states-mirror t)
+    states_mirror zero = begun_mirrors
+    states_mirror (suc t) = next_mirrors (state G R t) (state G' R' t) (states_mirror t)

@@ -9,16 +9,16 @@ use Rattle.rules.specs.Graphs.{Graph, Codeword, odd_check, unsatisfied}
 use Rattle.rules.specs.Sequence.{Scheme, bit_at, state, unsatisfied_in, stop, final, report}
 use Rattle.rules.specs.Theorems.{RunStops}
 use Rattle.rules.specs.declared.Verdict.TheVariants as Verdicts
-use Rattle.rules.proofs.Ranges.{First, first-is, count-zero, zero-count}
+use Rattle.rules.proofs.Ranges.{First, first_is, count_zero, zero_count}
 
 -- no check is odd exactly in a codeword
-pub none-odd : (G : Graph) (b : ℕ → Bool) → unsatisfied G b ≡ 0 → Codeword G b
+pub none_odd : (G : Graph) (b : ℕ → Bool) → unsatisfied G b ≡ 0 → Codeword G b
 unfolding unsatisfied
-none-odd G b h = zero-count (odd_check G b) G.checks h
+none_odd G b h = zero_count (odd_check G b) G.checks h
 
-pub codeword-none : (G : Graph) (b : ℕ → Bool) → Codeword G b → unsatisfied G b ≡ 0
+pub codeword_none : (G : Graph) (b : ℕ → Bool) → Codeword G b → unsatisfied G b ≡ 0
 unfolding unsatisfied
-codeword-none G b w = count-zero (odd_check G b) G.checks w
+codeword_none G b w = count_zero (odd_check G b) G.checks w
 
 module _ (G : Graph) (R : Scheme) (limit : ℕ) where
   test : ℕ → Bool
@@ -26,23 +26,23 @@ module _ (G : Graph) (R : Scheme) (limit : ℕ) where
 
   found : (t : ℕ) → test t ≡ true → Codeword G (bit_at (state G R t).bits)
   unfolding test unsatisfied_in
-  found t h = none-odd G (bit_at (state G R t).bits) (eqb-true (unsatisfied_in G R t) 0 h)
+  found t h = none_odd G (bit_at (state G R t).bits) (eqb-true (unsatisfied_in G R t) 0 h)
 
   tested : (t : ℕ) → Codeword G (bit_at (state G R t).bits) → test t ≡ true
   unfolding test unsatisfied_in
-  tested t w = eq-eqb (unsatisfied_in G R t) 0 (codeword-none G (bit_at (state G R t).bits) w)
+  tested t w = eq-eqb (unsatisfied_in G R t) 0 (codeword_none G (bit_at (state G R t).bits) w)
 
   stops_first : First test 0 limit (stop G R limit)
   unfolding test stop
-  stops_first = first-is test 0 limit
+  stops_first = first_is test 0 limit
 
   says : (b : Bool) → cond b Verdicts.Codeword Verdicts.Stopped ≡ Verdicts.Codeword → b ≡ true
   says true h = refl
   says false h = cc
 
-pub run-stops : RunStops
+pub run_stops : RunStops
 unfolding test final report
-run-stops G R limit = record {
+run_stops G R limit = record {
   within = omega (arith, f.high);
   earlier = λ t l w. clash (sym (tested G R limit t w) ∙ f.before t (omega arith) l);
   reached = λ l. found G R limit (stop G R limit) (f.found (omega arith));

@@ -11,9 +11,9 @@ use Rattle.rules.specs.Levels.{Level}
 use Rattle.rules.specs.Graphs.{Graph, Admitted, check_degree, variable_degree, check_of, odd_check, Codeword, unsatisfied}
 use Rattle.rules.specs.Nodes.{others, from_check, contribution, extra, channel_part, share, posterior, outgoing_sum}
 use Rattle.rules.specs.Symmetry.{turned, opposite, Reversed}
-use Rattle.rules.proofs.Ranges.{fold-ext, fold-map, fold-both, fold-but, count-ext}
-use Rattle.rules.proofs.Rows.{rowed, row_within, row-entries, row_is}
-use Rattle.rules.proofs.Signs.{xor-monoid, xor_self, xor-zero, xor-cancel, false-xor, opposite-zero, opposite-sum, contribution-turned}
+use Rattle.rules.proofs.Ranges.{fold_ext, fold_map, fold_both, fold_but, count_ext}
+use Rattle.rules.proofs.Rows.{rowed, row_within, row_entries_lem, row_is}
+use Rattle.rules.proofs.Signs.{xor_monoid, xor_self, xor_zero, xor_cancel, false_xor, opposite_zero, opposite_sum, contribution_turned}
 
 module _ (G : Graph) (ok : Admitted G) (c : ℕ → Bool) where
   -- q' is q reversed at the entries of variables where c is 1
@@ -26,9 +26,9 @@ module _ (G : Graph) (ok : Admitted G) (c : ℕ → Bool) where
   unfoldable pub odd_others : ℕ → Bool
   odd_others e = others G xor false (λ k. c (G.column k)) e
 
-  pub check-turned : (q q' : ℕ → Level) → Reverses q q' → (e : ℕ) → e < G.entries → from_check G q' e ≡ turned (odd_others e) (from_check G q e)
+  pub check_turned : (q q' : ℕ → Level) → Reverses q q' → (e : ℕ) → e < G.entries → from_check G q' e ≡ turned (odd_others e) (from_check G q e)
   unfolding from_check others odd_others turned but xor
-  check-turned q q' h e u = ap₂ level signs least
+  check_turned q q' h e u = ap₂ level signs least
     where
       level : Bool → ℕ → Level
       level b n = record { minus = b; magnitude = n }
@@ -40,7 +40,7 @@ module _ (G : Graph) (ok : Admitted G) (c : ℕ → Bool) where
       d = check_degree G (check_of G e)
 
       here : (k : ℕ) → k < a + d → q' k ≡ turned (c (G.column k)) (q k)
-      here k l = h k (row-entries G (rowed ok) (check_of G e) k (row_within G (rowed ok) e u).0 l)
+      here k l = h k (row_entries_lem G (rowed ok) (check_of G e) k (row_within G (rowed ok) e u).0 l)
 
       sign : (b : Bool) (k : ℕ) → k < a + d → cond b false (q' k).minus ≡ xor (cond b false (c (G.column k))) (cond b false (q k).minus)
       sign true k l = refl
@@ -52,94 +52,94 @@ module _ (G : Graph) (ok : Admitted G) (c : ℕ → Bool) where
 
       signs : fold xor false (but false e (λ k. (q' k).minus)) a d
           ≡ xor (fold xor false (but false e (λ k. c (G.column k))) a d) (fold xor false (but false e (λ k. (q k).minus)) a d)
-      signs = fold-ext xor false (but false e (λ k. (q' k).minus)) (λ k. xor (but false e (λ k. c (G.column k)) k) (but false e (λ k. (q k).minus) k)) a d
+      signs = fold_ext xor false (but false e (λ k. (q' k).minus)) (λ k. xor (but false e (λ k. c (G.column k)) k) (but false e (λ k. (q k).minus) k)) a d
           (λ k lo hi. sign (eqb k e) k hi)
-          ∙ fold-both xor false xor-monoid (but false e (λ k. c (G.column k))) (but false e (λ k. (q k).minus)) a d
+          ∙ fold_both xor false xor_monoid (but false e (λ k. c (G.column k))) (but false e (λ k. (q k).minus)) a d
 
       least : fold min 127 (but 127 e (λ k. (q' k).magnitude)) a d ≡ fold min 127 (but 127 e (λ k. (q k).magnitude)) a d
-      least = fold-ext min 127 (but 127 e (λ k. (q' k).magnitude)) (but 127 e (λ k. (q k).magnitude)) a d (λ k lo hi. size (eqb k e) k hi)
+      least = fold_ext min 127 (but 127 e (λ k. (q' k).magnitude)) (but 127 e (λ k. (q k).magnitude)) a d (λ k lo hi. size (eqb k e) k hi)
 
   -- the parity of a check is that of the others and the own bit
-  others-own : (e : ℕ) → e < G.entries → odd_check G c (check_of G e) ≡ xor (odd_others e) (c (G.column e))
+  others_own : (e : ℕ) → e < G.entries → odd_check G c (check_of G e) ≡ xor (odd_others e) (c (G.column e))
   unfolding odd_check odd_others others
-  others-own e h =
+  others_own e h =
       let r = row_within G (rowed ok) e h in
-      fold-but xor false xor-monoid e (λ k. c (G.column k)) (G.start (check_of G e)) (check_degree G (check_of G e)) r.1 (omega (arith, r.2))
+      fold_but xor false xor_monoid e (λ k. c (G.column k)) (G.start (check_of G e)) (check_degree G (check_of G e)) r.1 (omega (arith, r.2))
 
   -- for a codeword the check messages are reversed as the variable messages are
-  pub check-mirrored : Codeword G c → (q q' : ℕ → Level) → Reverses q q' → Reverses (from_check G q) (from_check G q')
-  check-mirrored w q q' h e u = check-turned q q' h e u ∙ ap (λ b. turned b (from_check G q e)) even
+  pub check_mirrored : Codeword G c → (q q' : ℕ → Level) → Reverses q q' → Reverses (from_check G q) (from_check G q')
+  check_mirrored w q q' h e u = check_turned q q' h e u ∙ ap (λ b. turned b (from_check G q e)) even
     where
       even : odd_others e ≡ c (G.column e)
-      even = xor-zero (odd_others e) (c (G.column e)) (sym (others-own e u) ∙ w (check_of G e) (row_within G (rowed ok) e u).0)
+      even = xor_zero (odd_others e) (c (G.column e)) (sym (others_own e u) ∙ w (check_of G e) (row_within G (rowed ok) e u).0)
 
   -- and only for a codeword
-  pub only-codewords : (q q' : ℕ → Level) → Reverses q q' → Reverses (from_check G q) (from_check G q') → Codeword G c
+  pub only_codewords : (q q' : ℕ → Level) → Reverses q q' → Reverses (from_check G q) (from_check G q') → Codeword G c
   unfolding turned
-  only-codewords q q' h back i u =
-      ap (odd_check G c) (sym at_row) ∙ others-own e inside ∙ ap (λ b. xor b (c (G.column e))) bit ∙ xor_self (c (G.column e))
+  only_codewords q q' h back i u =
+      ap (odd_check G c) (sym at_row) ∙ others_own e inside ∙ ap (λ b. xor b (c (G.column e))) bit ∙ xor_self (c (G.column e))
     where
       e : ℕ
       e = G.start i
 
       inside : e < G.entries
-      inside = row-entries G (rowed ok) i e u (omega (arith, ok.check_degrees i u))
+      inside = row_entries_lem G (rowed ok) i e u (omega (arith, ok.check_degrees i u))
 
       at_row : check_of G e ≡ i
       at_row = row_is G (rowed ok) e i u (omega arith) (omega (arith, ok.check_degrees i u))
 
       bit : odd_others e ≡ c (G.column e)
-      bit = xor-cancel (odd_others e) (c (G.column e)) (from_check G q e).minus
-          (sym (ap (λ l. l.minus) (check-turned q q' h e inside)) ∙ ap (λ l. l.minus) (back e inside))
+      bit = xor_cancel (odd_others e) (c (G.column e)) (from_check G q e).minus
+          (sym (ap (λ l. l.minus) (check_turned q q' h e inside)) ∙ ap (λ l. l.minus) (back e inside))
 
   -- ---- sums
 
   module _ (y y' C C' : ℕ → Level) (hy : Reversed G c y y') (h : Reverses C C') where
     -- the channel part and any shares that are negated where c is 1
-    sum-turned : (v : ℕ) (f f' : ℕ → ℤ) → v < G.variables → ((k : ℕ) → k < G.entries → f' k ≡ opposite (c v) (f k))
+    sum_turned : (v : ℕ) (f f' : ℕ → ℤ) → v < G.variables → ((k : ℕ) → k < G.entries → f' k ≡ opposite (c v) (f k))
         → channel_part G y' v +ℤ fold ◌+ℤ◌ (pos 0) f' 0 G.entries ≡ opposite (c v) (channel_part G y v +ℤ fold ◌+ℤ◌ (pos 0) f 0 G.entries)
     unfolding channel_part
-    sum-turned v f f' u g =
-        ap₂ ◌+ℤ◌ (ap (contribution e) (hy v u) ∙ contribution-turned (c v) e (y v))
-        (fold-ext ◌+ℤ◌ (pos 0) f' (λ k. opposite (c v) (f k)) 0 G.entries (λ k l m. g k (omega arith))
-        ∙ sym (fold-map ◌+ℤ◌ (pos 0) ◌+ℤ◌ (pos 0) (opposite (c v)) (opposite-zero (c v)) (opposite-sum (c v)) f 0 G.entries))
-        ∙ sym (opposite-sum (c v) (channel_part G y v) (fold ◌+ℤ◌ (pos 0) f 0 G.entries))
+    sum_turned v f f' u g =
+        ap₂ ◌+ℤ◌ (ap (contribution e) (hy v u) ∙ contribution_turned (c v) e (y v))
+        (fold_ext ◌+ℤ◌ (pos 0) f' (λ k. opposite (c v) (f k)) 0 G.entries (λ k l m. g k (omega arith))
+        ∙ sym (fold_map ◌+ℤ◌ (pos 0) ◌+ℤ◌ (pos 0) (opposite (c v)) (opposite_zero (c v)) (opposite_sum (c v)) f 0 G.entries))
+        ∙ sym (opposite_sum (c v) (channel_part G y v) (fold ◌+ℤ◌ (pos 0) f 0 G.entries))
       where
         e : ℕ
         e = extra (variable_degree G v)
 
-    share-turned : (v k : ℕ) → k < G.entries → share G C' v k ≡ opposite (c v) (share G C v k)
+    share_turned : (v k : ℕ) → k < G.entries → share G C' v k ≡ opposite (c v) (share G C v k)
     unfolding share
-    share-turned v k u = go (eqb (G.column k) v) refl
+    share_turned v k u = go (eqb (G.column k) v) refl
       where
         go : (b : Bool) → eqb (G.column k) v ≡ b → cond b (contribution 1 (C' k)) (pos 0) ≡ opposite (c v) (cond b (contribution 1 (C k)) (pos 0))
-        go true p = rw (h k u, eqb-true (G.column k) v p) (contribution-turned (c v) 1 (C k))
-        go false p = sym (opposite-zero (c v))
+        go true p = rw (h k u, eqb-true (G.column k) v p) (contribution_turned (c v) 1 (C k))
+        go false p = sym (opposite_zero (c v))
 
-    pub posterior-turned : (v : ℕ) → v < G.variables → posterior G y' C' v ≡ opposite (c v) (posterior G y C v)
+    pub posterior_turned : (v : ℕ) → v < G.variables → posterior G y' C' v ≡ opposite (c v) (posterior G y C v)
     unfolding posterior
-    posterior-turned v u = sum-turned v (share G C v) (share G C' v) u (share-turned v)
+    posterior_turned v u = sum_turned v (share G C v) (share G C' v) u (share_turned v)
 
-    pub outgoing_sum-turned : (e : ℕ) → e < G.entries → outgoing_sum G y' C' e ≡ opposite (c (G.column e)) (outgoing_sum G y C e)
+    pub outgoing_sum_turned : (e : ℕ) → e < G.entries → outgoing_sum G y' C' e ≡ opposite (c (G.column e)) (outgoing_sum G y C e)
     unfolding outgoing_sum but
-    outgoing_sum-turned e u = sum-turned v (but (pos 0) e (share G C v)) (but (pos 0) e (share G C' v)) (ok.within e u) (λ k m. left_out (eqb k e) k m)
+    outgoing_sum_turned e u = sum_turned v (but (pos 0) e (share G C v)) (but (pos 0) e (share G C' v)) (ok.within e u) (λ k m. left_out (eqb k e) k m)
       where
         v : ℕ
         v = G.column e
 
         left_out : (b : Bool) (k : ℕ) → k < G.entries → cond b (pos 0) (share G C' v k) ≡ opposite (c v) (cond b (pos 0) (share G C v k))
-        left_out true k m = sym (opposite-zero (c v))
-        left_out false k m = share-turned v k m
+        left_out true k m = sym (opposite_zero (c v))
+        left_out false k m = share_turned v k m
 
   -- ---- odd checks
 
   -- bits that differ by a codeword leave the same checks odd
-  pub unsatisfied-turned : Codeword G c → (b b' : ℕ → Bool) → ((v : ℕ) → v < G.variables → b' v ≡ xor (c v) (b v)) → unsatisfied G b' ≡ unsatisfied G b
+  pub unsatisfied_turned : Codeword G c → (b b' : ℕ → Bool) → ((v : ℕ) → v < G.variables → b' v ≡ xor (c v) (b v)) → unsatisfied G b' ≡ unsatisfied G b
   unfolding unsatisfied odd_check
-  unsatisfied-turned w b b' h = count-ext (odd_check G b') (odd_check G b) G.checks same
+  unsatisfied_turned w b b' h = count_ext (odd_check G b') (odd_check G b) G.checks same
     where
       same : (i : ℕ) → i < G.checks → odd_check G b' i ≡ odd_check G b i
-      same i u = fold-ext xor false (λ e. b' (G.column e)) (λ e. xor (c (G.column e)) (b (G.column e))) (G.start i) (check_degree G i)
-          (λ e lo hi. h (G.column e) (ok.within e (row-entries G (rowed ok) i e u hi)))
-          ∙ fold-both xor false xor-monoid (λ e. c (G.column e)) (λ e. b (G.column e)) (G.start i) (check_degree G i)
-          ∙ ap (λ x. xor x (odd_check G b i)) (w i u) ∙ false-xor (odd_check G b i)
+      same i u = fold_ext xor false (λ e. b' (G.column e)) (λ e. xor (c (G.column e)) (b (G.column e))) (G.start i) (check_degree G i)
+          (λ e lo hi. h (G.column e) (ok.within e (row_entries_lem G (rowed ok) i e u hi)))
+          ∙ fold_both xor false xor_monoid (λ e. c (G.column e)) (λ e. b (G.column e)) (G.start i) (check_degree G i)
+          ∙ ap (λ x. xor x (odd_check G b i)) (w i u) ∙ false_xor (odd_check G b i)

@@ -17,63 +17,63 @@ use Rattle.program_texts.specs.RunText.Reading.{refused, value_lines, run_lines,
 -- ---- line 1
 
 module _ (t : List ℕ) where
-  pub titles-plain : {r : List ℕ} → fixed plain_titles t ≡ value tt r → titles t ≡ value false r
+  pub titles_plain : {r : List ℕ} → fixed plain_titles t ≡ value tt r → titles t ≡ value false r
   unfolding titles
-  titles-plain e = rw e
+  titles_plain e = rw e
 
   module _ (n : fixed plain_titles t ≡ other) where
-    pub titles-noise : {r : List ℕ} → fixed noise_titles t ≡ value tt r → titles t ≡ value true r
+    pub titles_noise : {r : List ℕ} → fixed noise_titles t ≡ value tt r → titles t ≡ value true r
     unfolding titles
-    titles-noise e = rw (n, e)
+    titles_noise e = rw (n, e)
 
-    pub titles-other : fixed noise_titles t ≡ other → titles t ≡ other
+    pub titles_other : fixed noise_titles t ≡ other → titles t ≡ other
     unfolding titles
-    titles-other e = rw (n, e)
+    titles_other e = rw (n, e)
 
 -- ---- line 2
 
 module _ (t : List ℕ) where
-  pub scaling-other : (noise : _) → pattern space t ≡ other → scaling noise t ≡ other
+  pub scaling_other : (noise : _) → pattern space t ≡ other → scaling noise t ≡ other
   unfolding scaling
-  scaling-other false e = rw e
-  scaling-other true e = rw e
+  scaling_other false e = rw e
+  scaling_other true e = rw e
 
   module _ {g : ℕ} {r : List ℕ} (e : pattern space t ≡ value g r) where
-    pub scaling-plain : scaling false t ≡ value (Plain (of_bits binary32 g)) r
+    pub scaling_plain : scaling false t ≡ value (Plain (of_bits binary32 g)) r
     unfolding scaling
-    scaling-plain = rw e
+    scaling_plain = rw e
 
-    pub scaling-half : pattern space r ≡ other → scaling true t ≡ other
+    pub scaling_half : pattern space r ≡ other → scaling true t ≡ other
     unfolding scaling
-    scaling-half k = rw (e, k)
+    scaling_half k = rw (e, k)
 
-    pub scaling-noise : {v : ℕ} {u : List ℕ} → pattern space r ≡ value v u → scaling true t ≡ value (Noise (of_bits binary32 g) (of_bits binary32 v)) u
+    pub scaling_noise : {v : ℕ} {u : List ℕ} → pattern space r ≡ value v u → scaling true t ≡ value (Noise (of_bits binary32 g) (of_bits binary32 v)) u
     unfolding scaling
-    scaling-noise k = rw (e, k)
+    scaling_noise k = rw (e, k)
 
 module _ (x : ℕ) (t : List ℕ) where
-  pub settings-first : setting space t ≡ other → settings x t ≡ other
+  pub settings_first : setting space t ≡ other → settings x t ≡ other
   unfolding settings
-  settings-first e = rw e
+  settings_first e = rw e
 
   module _ {a : ℕ} {t₁ : List ℕ} (e₁ : setting space t ≡ value a t₁) where
-    pub settings-second : setting space t₁ ≡ other → settings x t ≡ other
+    pub settings_second : setting space t₁ ≡ other → settings x t ≡ other
     unfolding settings
-    settings-second e = rw (e₁, e)
+    settings_second e = rw (e₁, e)
 
     module _ {b : ℕ} {t₂ : List ℕ} (e₂ : setting space t₁ ≡ value b t₂) where
-      pub settings-third : setting x t₂ ≡ other → settings x t ≡ other
+      pub settings_third : setting x t₂ ≡ other → settings x t ≡ other
       unfolding settings
-      settings-third e = rw (e₁, e₂, e)
+      settings_third e = rw (e₁, e₂, e)
 
-      pub settings-are : {c : ℕ} {t₃ : List ℕ} → setting x t₂ ≡ value c t₃ → settings x t ≡ value (three a b c) t₃
+      pub settings_are : {c : ℕ} {t₃ : List ℕ} → setting x t₂ ≡ value c t₃ → settings x t ≡ value (three a b c) t₃
       unfolding settings
-      settings-are e = rw (e₁, e₂, e)
+      settings_are e = rw (e₁, e₂, e)
 
 module _ (noise : _) (t : List ℕ) where
-  pub line-scaling : scaling noise t ≡ other → settings_line noise t ≡ other
+  pub line_scaling : scaling noise t ≡ other → settings_line noise t ≡ other
   unfolding settings_line
-  line-scaling e = rw e
+  line_scaling e = rw e
 
   module _ {s : Scaling} {t₁ : List ℕ} (e₁ : scaling noise t ≡ value s t₁) where
     pub line_first : settings space t₁ ≡ other → settings_line noise t ≡ other
@@ -85,26 +85,26 @@ module _ (noise : _) (t : List ℕ) where
       unfolding settings_line
       line_second e = rw (e₁, e₂, e)
 
-      pub line-is : {b : Three} {t₃ : List ℕ} → settings lf t₂ ≡ value b t₃ → settings_line noise t ≡ value (given s a b) t₃
+      pub line_is : {b : Three} {t₃ : List ℕ} → settings lf t₂ ≡ value b t₃ → settings_line noise t ≡ value (given s a b) t₃
       unfolding settings_line
-      line-is e = rw (e₁, e₂, e)
+      line_is e = rw (e₁, e₂, e)
 
 -- ---- the lines above the values
 
 module _ (n : ℕ) (s : List ℕ) where
-  pub no-titles : titles s ≡ other → run_lines n s ≡ refused 1
+  pub no_titles : titles s ≡ other → run_lines n s ≡ refused 1
   unfolding run_lines
-  no-titles e = rw e
+  no_titles e = rw e
 
   module _ {noise : _} {t₁ : List ℕ} (e₁ : titles s ≡ value noise t₁) where
-    pub no-settings : settings_line noise t₁ ≡ other → run_lines n s ≡ refused 2
+    pub no_settings : settings_line noise t₁ ≡ other → run_lines n s ≡ refused 2
     unfolding run_lines
-    no-settings e = rw (e₁, e)
+    no_settings e = rw (e₁, e)
 
     module _ {g : Parameters} {t₂ : List ℕ} (e₂ : settings_line noise t₁ ≡ value g t₂) where
-      pub no-title : fixed value_title t₂ ≡ other → run_lines n s ≡ refused 3
+      pub no_title : fixed value_title t₂ ≡ other → run_lines n s ≡ refused 3
       unfolding run_lines
-      no-title e = rw (e₁, e₂, e)
+      no_title e = rw (e₁, e₂, e)
 
       pub to_values : {t₃ : List ℕ} → fixed value_title t₂ ≡ value tt t₃ → run_lines n s ≡ value_lines g n 4 [] t₃
       unfolding run_lines

@@ -11,18 +11,18 @@ use lib.ListN.{length}
 use Rattle.rules.specs.Graphs.{Graph, unsatisfied}
 use Rattle.rules.specs.Sequence.{Scheme, State, bit_at, sent, iterated, next}
 use Rattle.rules.specs.Halting.{ends, resumed}
-use Rattle.rules.proofs.Halting.{resumed-first, resumed-more, resumed-over}
+use Rattle.rules.proofs.Halting.{resumed_first, resumed_more, resumed_over}
 use Rattle.words.specs.Roles.{bit_of_byte}
 use Rattle.steps.specs.Steps.{Holds, Sized, InBytes, Resumes}
 use Rattle.steps.proofs.Running.{bits_of}
 
-or-none : (a b : Bool) → a || b ≡ false → (a ≡ false) × (b ≡ false)
-or-none true b h = absurd (true≢false h)
-or-none false b h = (refl, h)
+or_none : (a b : Bool) → a || b ≡ false → (a ≡ false) × (b ≡ false)
+or_none true b h = absurd (true≢false h)
+or_none false b h = (refl, h)
 
 -- what is sent where the run goes on
-pub sent-on : {w : Bool} (q q' : List ℕ) {q₁ : List ℕ} → w ≡ false → q₁ ≡ cond w q q' → q₁ ≡ q'
-sent-on q q' o e = e ∙ ap (λ b. cond b q q') o
+pub sent_on : {w : Bool} (q q' : List ℕ) {q₁ : List ℕ} → w ≡ false → q₁ ≡ cond w q q' → q₁ ≡ q'
+sent_on q q' o e = e ∙ ap (λ b. cond b q q') o
 
 module _ (G : Graph) (R : Scheme) (limit N : ℕ) where
   -- k iterations after the state σ the run is in iteration t and open, and q holds what is sent there
@@ -41,9 +41,9 @@ module _ (G : Graph) (R : Scheme) (limit N : ℕ) where
     pub bits : length b ≡ length b₀
     pub goes : (σ : State) → σ.iteration ≡ begun → InBytes N (sent G R σ) q₀ → (k : ℕ) → t ≡ begun + k → Goes σ k t q
 
-  pub going-none : {begun end : ℕ} {q C S b : List ℕ} → begun < end → Going begun end q C S b q C S b begun
+  pub going_none : {begun end : ℕ} {q C S b : List ℕ} → begun < end → Going begun end q C S b q C S b begun
   unfolding resumed
-  going-none {begun} {end} {q} l = record {
+  going_none {begun} {end} {q} l = record {
     from = omega arith;
     below = l;
     variable_messages = refl;
@@ -54,7 +54,7 @@ module _ (G : Graph) (R : Scheme) (limit N : ℕ) where
   }
     where
       at : (σ : State) → σ.iteration ≡ begun → InBytes N (sent G R σ) q → (k : ℕ) → begun ≡ begun + k → Goes σ k begun q
-      at σ n h zero e = record { number = n; sends = h; more = resumed-first G R limit σ }
+      at σ n h zero e = record { number = n; sends = h; more = resumed_first G R limit σ }
       at σ n h (suc k) e = absurd (omega arith)
 
   -- one iteration more, up to its bits b₁; w says whether they are a codeword
@@ -64,49 +64,49 @@ module _ (G : Graph) (R : Scheme) (limit N : ℕ) where
       here : Goes σ (t - begun) t q
       here = going.goes σ n h (t - begun) (omega (arith, going.from))
 
-      pub after-number : (resumed G R limit (suc (t - begun)) σ).iteration ≡ t + 1
+      pub after_number : (resumed G R limit (suc (t - begun)) σ).iteration ≡ t + 1
       unfolding next iterated
-      after-number = ap (λ (τ : State). τ.iteration) here.more ∙ ap suc here.number ∙ sym (add-one t)
+      after_number = ap (λ (τ : State). τ.iteration) here.more ∙ ap suc here.number ∙ sym (add-one t)
 
       pub after_holds : Holds G (resumed G R limit (suc (t - begun)) σ) q C₁ S₁ b₁
       after_holds = subst (λ (τ : State). Holds G τ q C₁ S₁ b₁) (sym here.more) (holds (resumed G R limit (t - begun) σ) here.number here.sends)
 
-      after-odd : unsatisfied G (bit_of_byte b₁) ≡ unsatisfied G (bit_at (resumed G R limit (suc (t - begun)) σ).bits)
-      after-odd = ap (unsatisfied G) (ap bit_of_byte after_holds.bits ∙ bits_of (resumed G R limit (suc (t - begun)) σ).bits)
+      after_odd : unsatisfied G (bit_of_byte b₁) ≡ unsatisfied G (bit_at (resumed G R limit (suc (t - begun)) σ).bits)
+      after_odd = ap (unsatisfied G) (ap bit_of_byte after_holds.bits ∙ bits_of (resumed G R limit (suc (t - begun)) σ).bits)
 
       resumes : (k : ℕ) → resumed G R limit (suc (t - begun)) σ ≡ resumed G R limit k σ → Resumes G R limit k σ (t + 1) q C₁ S₁ b₁
       resumes k e = record {
-        number = sym (ap (λ (τ : State). τ.iteration) (sym e) ∙ after-number);
+        number = sym (ap (λ (τ : State). τ.iteration) (sym e) ∙ after_number);
         holds = subst (λ (τ : State). Holds G τ q C₁ S₁ b₁) e after_holds;
       }
 
-      at-end : t + 1 ≡ end → resumed G R limit (suc (t - begun)) σ ≡ resumed G R limit (end - begun) σ
-      at-end e = let k : suc (t - begun) ≡ end - begun = omega (arith, going.from) in ap (λ (j : ℕ). resumed G R limit j σ) k
+      at_end_lem : t + 1 ≡ end → resumed G R limit (suc (t - begun)) σ ≡ resumed G R limit (end - begun) σ
+      at_end_lem e = let k : suc (t - begun) ≡ end - begun = omega (arith, going.from) in ap (λ (j : ℕ). resumed G R limit j σ) k
 
-      at-codeword : eqb (unsatisfied G (bit_of_byte b₁)) 0 ≡ true → resumed G R limit (suc (t - begun)) σ ≡ resumed G R limit (end - begun) σ
+      at_codeword : eqb (unsatisfied G (bit_of_byte b₁)) 0 ≡ true → resumed G R limit (suc (t - begun)) σ ≡ resumed G R limit (end - begun) σ
       unfolding ends
-      at-codeword o =
+      at_codeword o =
           let j : ℕ = end - begun - suc (t - begun) in
           let k : suc (t - begun) + j ≡ end - begun = omega (arith, going.from, going.below) in
-          let word : eqb (unsatisfied G (bit_at (resumed G R limit (suc (t - begun)) σ).bits)) 0 ≡ true = ap (λ u. eqb u 0) (sym after-odd) ∙ o in
-          sym (resumed-over G R limit (t - begun) j σ (ap (λ b. b || leb limit (resumed G R limit (suc (t - begun)) σ).iteration) word)) ∙ ap (λ (i : ℕ). resumed G R limit i σ) k
+          let word : eqb (unsatisfied G (bit_at (resumed G R limit (suc (t - begun)) σ).bits)) 0 ≡ true = ap (λ u. eqb u 0) (sym after_odd) ∙ o in
+          sym (resumed_over G R limit (t - begun) j σ (ap (λ b. b || leb limit (resumed G R limit (suc (t - begun)) σ).iteration) word)) ∙ ap (λ (i : ℕ). resumed G R limit i σ) k
 
       -- at the end or at a codeword the run halts, and nothing is sent
-      pub going-over : {w : Bool} → w ≡ eqb (t + 1) end || eqb (unsatisfied G (bit_of_byte b₁)) 0 → w ≡ true → {q₁ : List ℕ} (q' : List ℕ) → q₁ ≡ cond w q q'
+      pub going_over : {w : Bool} → w ≡ eqb (t + 1) end || eqb (unsatisfied G (bit_of_byte b₁)) 0 → w ≡ true → {q₁ : List ℕ} (q' : List ℕ) → q₁ ≡ cond w q q'
           → Resumes G R limit (end - begun) σ (t + 1) q₁ C₁ S₁ b₁
-      going-over {w} e o {q₁} q' s =
+      going_over {w} e o {q₁} q' s =
           subst (λ (l : List ℕ). Resumes G R limit (end - begun) σ (t + 1) l C₁ S₁ b₁) (sym (s ∙ ap (λ b. cond b q q') o)) (resumes (end - begun) (go (eqb (t + 1) end) refl (sym e ∙ o)))
         where
           go : (a : Bool) → eqb (t + 1) end ≡ a → a || eqb (unsatisfied G (bit_of_byte b₁)) 0 ≡ true → resumed G R limit (suc (t - begun)) σ ≡ resumed G R limit (end - begun) σ
-          go true h k = at-end (eqb-true (t + 1) end h)
-          go false h k = at-codeword k
+          go true h k = at_end_lem (eqb-true (t + 1) end h)
+          go false h k = at_codeword k
 
       -- neither
-      open-still : eqb (unsatisfied G (bit_of_byte b₁)) 0 ≡ false → t + 1 < limit → ends G R limit (resumed G R limit (suc (t - begun)) σ) ≡ false
+      open_still : eqb (unsatisfied G (bit_of_byte b₁)) 0 ≡ false → t + 1 < limit → ends G R limit (resumed G R limit (suc (t - begun)) σ) ≡ false
       unfolding ends
-      open-still o l =
-          ap₂ (λ a b. a || b) (ap (λ u. eqb u 0) (sym after-odd) ∙ o)
-          (ap (leb limit) after-number ∙ lt-leb limit (t + 1) l)
+      open_still o l =
+          ap₂ (λ a b. a || b) (ap (λ u. eqb u 0) (sym after_odd) ∙ o)
+          (ap (leb limit) after_number ∙ lt-leb limit (t + 1) l)
 
     pub going_more : {w : Bool} → w ≡ eqb (t + 1) end || eqb (unsatisfied G (bit_of_byte b₁)) 0 → w ≡ false → end ≤ limit → {q₁ : List ℕ}
         → length q₁ ≡ length q → length C₁ ≡ length C → length S₁ ≡ length S → length b₁ ≡ length b
@@ -122,7 +122,7 @@ module _ (G : Graph) (R : Scheme) (limit N : ℕ) where
     }
       where
         none : (eqb (t + 1) end ≡ false) × (eqb (unsatisfied G (bit_of_byte b₁)) 0 ≡ false)
-        none = or-none (eqb (t + 1) end) (eqb (unsatisfied G (bit_of_byte b₁)) 0) (sym e ∙ o)
+        none = or_none (eqb (t + 1) end) (eqb (unsatisfied G (bit_of_byte b₁)) 0) (sym e ∙ o)
 
         d : t + 1 ≡ end → ⊥
         d = eqb-false (t + 1) end none.0
@@ -131,15 +131,15 @@ module _ (G : Graph) (R : Scheme) (limit N : ℕ) where
         at σ n h k i =
             let same : suc (t - begun) ≡ k = omega (arith, going.from) in
             subst (λ (k : ℕ). Goes σ k (t + 1) q₁) same (record {
-              number = after-number σ n h;
+              number = after_number σ n h;
               sends = subst (λ (τ : State). InBytes N (sent G R τ) q₁) (sym (here σ n h).more) (sends (resumed G R limit (t - begun) σ) (here σ n h).number (here σ n h).sends);
-              more = resumed-more G R limit (t - begun) σ (open-still σ n h none.1 (omega (arith, going.below, d)));
+              more = resumed_more G R limit (t - begun) σ (open_still σ n h none.1 (omega (arith, going.below, d)));
             })
 
 -- memory of the right lengths stays so
-pub sized-again : {G : Graph} {y d q C S b q₁ C₁ S₁ b₁ : List ℕ} → Sized G y d q C S b → length q₁ ≡ length q → length C₁ ≡ length C → length S₁ ≡ length S → length b₁ ≡ length b
+pub sized_again : {G : Graph} {y d q C S b q₁ C₁ S₁ b₁ : List ℕ} → Sized G y d q C S b → length q₁ ≡ length q → length C₁ ≡ length C → length S₁ ≡ length S → length b₁ ≡ length b
     → Sized G y d q₁ C₁ S₁ b₁
-sized-again z lq lC lS lb = record {
+sized_again z lq lC lS lb = record {
   summed = record {
     admitted = z.summed.admitted;
     levels = z.summed.levels;

@@ -12,16 +12,16 @@ use Rattle.refusals.specs.Refusals.{unless, or_else}
 use Rattle.refusals.specs.declared.Refusal.TheVariants as Refusal
 use Rattle.refusals.specs.declared.Judged.{Judged}
 use Rattle.refusals.specs.declared.Judged.TheVariants as Judged
-use Rattle.refusals.proofs.Judging.{refused-not}
+use Rattle.refusals.proofs.Judging.{refused_not}
 use Rattle.rules.proofs.Tests.{and_left, and_right}
-use Rattle.rules.proofs.Own.{largest-within}
+use Rattle.rules.proofs.Own.{largest_within}
 use Rattle.settings.specs.declared.Parameters.{Parameters}
 use Rattle.settings.specs.declared.Settings.{Settings}
 use Rattle.settings.specs.declared.Checked.TheVariants.{Good}
 use Rattle.settings.specs.Scaling.{factor_of, scaling_admitted, infinite_or_zero}
 use Rattle.settings.specs.Settings.{largest_lift, precisions_admitted, options_admitted, lifting_admitted, settings_judged, settings, checked, settings_of}
 use Rattle.settings.specs.Theorems.{Admissible, GoodSettings, JudgedAsBefore}
-use Rattle.settings.proofs.Factors.{factor-positive}
+use Rattle.settings.proofs.Factors.{factor_positive}
 
 abbrev in_order : Bool → Bool → Bool → Bool → Bool → Judged
 in_order p o l g f =
@@ -35,86 +35,86 @@ module _ (p : Parameters) where
   unfolding settings_of
   tested hp ho hl hg hf = cc
 
-  pub with-factor : {f : Float} → f ≡ factor_of p.scaling
+  pub with_factor : {f : Float} → f ≡ factor_of p.scaling
       → Good (record { factor = f; channel = p.channel; message = p.message; phi_s = p.phi_s; phi_a = p.phi_a; phi_0 = p.phi_0; limit = p.limit; lift_from = p.lift_from; lift_to = p.lift_to })
       ≡ Good (settings p)
-  with-factor e = cc
+  with_factor e = cc
 
 either : {P : Type 0} (a b : Bool) → (a ≡ true → P) → (b ≡ true → P) → a || b ≡ true → P
 either true b f g h = f refl
 either false b f g h = g h
 
-pub precision-bounds : (channel message : ℕ) → precisions_admitted channel message ≡ true
+pub precision_bounds : (channel message : ℕ) → precisions_admitted channel message ≡ true
     → ((3 ≤ channel) × (channel ≤ 4)) × ((2 ≤ message) × (message ≤ channel))
-precision-bounds channel message h =
-    let of-channel = eqb channel 3 || eqb channel 4 in
-    let of-message = eqb message channel || eqb message (channel - 1) in
+precision_bounds channel message h =
+    let of_channel = eqb channel 3 || eqb channel 4 in
+    let of_message = eqb message channel || eqb message (channel - 1) in
     let bits : (3 ≤ channel) × (channel ≤ 4) =
-    either (eqb channel 3) (eqb channel 4) (λ e. omega (arith, eqb-true channel 3 e)) (λ e. omega (arith, eqb-true channel 4 e)) (and_left of-channel of-message h) in
+    either (eqb channel 3) (eqb channel 4) (λ e. omega (arith, eqb-true channel 3 e)) (λ e. omega (arith, eqb-true channel 4 e)) (and_left of_channel of_message h) in
     let fewer : (2 ≤ message) × (message ≤ channel) =
-    either (eqb message channel) (eqb message (channel - 1)) (λ e. omega (arith, eqb-true message channel e)) (λ e. omega (arith, eqb-true message (channel - 1) e)) (and_right of-channel of-message h) in
+    either (eqb message channel) (eqb message (channel - 1)) (λ e. omega (arith, eqb-true message channel e)) (λ e. omega (arith, eqb-true message (channel - 1) e)) (and_right of_channel of_message h) in
     (bits, fewer)
 
 -- four tests, one after the other
-four-true : (a b c d : Bool) → a && b && c && d ≡ true → (a ≡ true) × (b ≡ true) × (c ≡ true) × (d ≡ true)
-four-true true true true true h = (refl, refl, refl, refl)
-four-true true true true false h = absurd (true≢false (sym h))
-four-true true true false d h = absurd (true≢false (sym h))
-four-true true false c d h = absurd (true≢false (sym h))
-four-true false b c d h = absurd (true≢false (sym h))
+four_true : (a b c d : Bool) → a && b && c && d ≡ true → (a ≡ true) × (b ≡ true) × (c ≡ true) × (d ≡ true)
+four_true true true true true h = (refl, refl, refl, refl)
+four_true true true true false h = absurd (true≢false (sym h))
+four_true true true false d h = absurd (true≢false (sym h))
+four_true true false c d h = absurd (true≢false (sym h))
+four_true false b c d h = absurd (true≢false (sym h))
 
-pub option-bounds : (p : Parameters) → options_admitted p ≡ true → ((p.phi_s ≤ 1) × (p.phi_a ≤ 1) × (p.phi_0 ≤ 1)) × (p.limit ≤ 255)
-option-bounds p h =
-    let t = four-true (leb p.phi_s 1) (leb p.phi_a 1) (leb p.phi_0 1) (leb p.limit 255) h in
+pub option_bounds : (p : Parameters) → options_admitted p ≡ true → ((p.phi_s ≤ 1) × (p.phi_a ≤ 1) × (p.phi_0 ≤ 1)) × (p.limit ≤ 255)
+option_bounds p h =
+    let t = four_true (leb p.phi_s 1) (leb p.phi_a 1) (leb p.phi_0 1) (leb p.limit 255) h in
     let offsets : (p.phi_s ≤ 1) × (p.phi_a ≤ 1) × (p.phi_0 ≤ 1) =
     (leb-true p.phi_s 1 t.0, leb-true p.phi_a 1 t.1, leb-true p.phi_0 1 t.2) in
     (offsets, leb-true p.limit 255 t.3)
 
-pub lifting-bounds : (p : Parameters) → lifting_admitted p ≡ true
+pub lifting_bounds : (p : Parameters) → lifting_admitted p ≡ true
     → (1 ≤ p.lift_from) × (p.lift_from ≤ never) × (largest p.message < p.lift_to) × (p.lift_to ≤ largest_lift)
-lifting-bounds p h =
-    let t = four-true (leb 1 p.lift_from) (leb p.lift_from never) (ltb (largest p.message) p.lift_to) (leb p.lift_to largest_lift) h in
+lifting_bounds p h =
+    let t = four_true (leb 1 p.lift_from) (leb p.lift_from never) (ltb (largest p.message) p.lift_to) (leb p.lift_to largest_lift) h in
     (leb-true 1 p.lift_from t.0, leb-true p.lift_from never t.1, ltb-true (largest p.message) p.lift_to t.2, leb-true p.lift_to largest_lift t.3)
 
-checked-good : (j : Judged) (made s : Settings) → checked j made ≡ Good s → (j ≡ Judged.Admitted) × (s ≡ made)
-checked-good Judged.Admitted made s h = (refl, cc)
-checked-good (Judged.Refused r) made s h = let z : ◌≡◌ {A = ℕ} 0 1 = cc in absurd (omega arith)
+checked_good : (j : Judged) (made s : Settings) → checked j made ≡ Good s → (j ≡ Judged.Admitted) × (s ≡ made)
+checked_good Judged.Admitted made s h = (refl, cc)
+checked_good (Judged.Refused r) made s h = let z : ◌≡◌ {A = ℕ} 0 1 = cc in absurd (omega arith)
 
 all_pass : (p o l g f : Bool) → in_order p o l g f ≡ Judged.Admitted → (p ≡ true) × (o ≡ true) × (l ≡ true) × (g ≡ true) × (f ≡ true)
 all_pass true true true true true h = (refl, refl, refl, refl, refl)
-all_pass true true true true false h = absurd (refused-not h)
-all_pass true true true false f h = absurd (refused-not h)
-all_pass true true false g f h = absurd (refused-not h)
-all_pass true false l g f h = absurd (refused-not h)
-all_pass false o l g f h = absurd (refused-not h)
+all_pass true true true true false h = absurd (refused_not h)
+all_pass true true true false f h = absurd (refused_not h)
+all_pass true true false g f h = absurd (refused_not h)
+all_pass true false l g f h = absurd (refused_not h)
+all_pass false o l g f h = absurd (refused_not h)
 
-pub good-settings : GoodSettings
+pub good_settings : GoodSettings
 unfolding settings_of
-good-settings p s h =
+good_settings p s h =
     let made = settings p in
-    let good = checked-good (settings_judged p) made s h in
+    let good = checked_good (settings_judged p) made s h in
     let passed = all_pass (precisions_admitted p.channel p.message) (options_admitted p) (lifting_admitted p) (scaling_admitted p.scaling) (not (infinite_or_zero (factor_of p.scaling))) good.0 in
-    let bits = precision-bounds p.channel p.message passed.0 in
-    let options = option-bounds p passed.1 in
+    let bits = precision_bounds p.channel p.message passed.0 in
+    let options = option_bounds p passed.1 in
     let admissible : Admissible made = record {
-      factor = factor-positive p.scaling passed.3 ∙ passed.4;
+      factor = factor_positive p.scaling passed.3 ∙ passed.4;
       channel = bits.0;
       message = bits.1;
       offsets = options.0;
       limit = options.1;
-      lifting = lifting-bounds p passed.2;
+      lifting = lifting_bounds p passed.2;
     } in
     (good.1, subst Admissible (sym good.1) admissible)
 
 -- ---- nothing lifted
 
-pub judged-as-before : JudgedAsBefore
-judged-as-before p hL hW = go (precisions_admitted p.channel p.message) refl
+pub judged_as_before : JudgedAsBefore
+judged_as_before p hL hW = go (precisions_admitted p.channel p.message) refl
   where
     admitted : precisions_admitted p.channel p.message ≡ true → lifting_admitted p ≡ true
     admitted h =
-        let bits = precision-bounds p.channel p.message h in
-        rw (hL, hW, lt-ltb (largest p.message) largest_lift (omega (arith, largest-within p.message (omega arith))))
+        let bits = precision_bounds p.channel p.message h in
+        rw (hL, hW, lt-ltb (largest p.message) largest_lift (omega (arith, largest_within p.message (omega arith))))
 
     rest : Judged → Judged
     rest l = or_else (unless (options_admitted p) Refusal.Option) (or_else l (or_else (unless (scaling_admitted p.scaling) Refusal.Scaling) (unless (not (infinite_or_zero (factor_of p.scaling))) Refusal.Factor)))

@@ -7,6 +7,6 @@ use Rattle.rules.specs.Levels.{byte}
 use Rattle.settings.specs.Quantiser.{wholes_below, level_for}
 use Rattle.settings.specs.Trials.{trials, passes, TrialsPass}
 
-pub trials-pass : TrialsPass
+pub trials_pass : TrialsPass
 unfolding mul lt of_int of_bits fold count byte wholes_below level_for trials passes failures
-trials-pass = refl
+trials_pass = refl

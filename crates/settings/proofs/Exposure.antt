@@ -16,23 +16,23 @@ use Rattle.rules.specs.Ranges.{fold, one, count}
 use Rattle.settings.specs.Scaling.{whole}
 use Rattle.settings.specs.Quantiser.{wholes_below}
 
-whole-value : (k : ℕ) → k < 128 → HasValue (whole k) false k 1
+whole_value : (k : ℕ) → k < 128 → HasValue (whole k) false k 1
 unfolding of_int
-whole-value k h = round_whole binary32 false k (omega arith)
+whole_value k h = round_whole binary32 false k (omega arith)
 
 -- what lies above a number lies above a smaller one
-lower-below : (x y p : Float) (i k : ℕ) → HasValue x false i 1 → HasValue y false k 1 → i ≤ k → lt y p ≡ true → lt x p ≡ true
+lower_below : (x y p : Float) (i k : ℕ) → HasValue x false i 1 → HasValue y false k 1 → i ≤ k → lt y p ≡ true → lt x p ≡ true
 unfolding lt
-lower-below nan y p i k a b l h = absurd a
-lower-below (inf s) y p i k a b l h = absurd a
-lower-below (fin true m e) y p i k a b l h = absurd (true≢false a.0)
-lower-below (fin false m e) nan p i k a b l h = absurd b
-lower-below (fin false m e) (inf s) p i k a b l h = absurd b
-lower-below (fin false m e) (fin true n d) p i k a b l h = absurd (true≢false b.0)
-lower-below (fin false m e) (fin false n d) nan i k a b l h = absurd (true≢false (sym h))
-lower-below (fin false m e) (fin false n d) (inf t) i k a b l h = h
-lower-below (fin false m e) (fin false n d) (fin true o g) i k a b l h = absurd (true≢false (sym h))
-lower-below (fin false m e) (fin false n d) (fin false o g) i k a b l h =
+lower_below nan y p i k a b l h = absurd a
+lower_below (inf s) y p i k a b l h = absurd a
+lower_below (fin true m e) y p i k a b l h = absurd (true≢false a.0)
+lower_below (fin false m e) nan p i k a b l h = absurd b
+lower_below (fin false m e) (inf s) p i k a b l h = absurd b
+lower_below (fin false m e) (fin true n d) p i k a b l h = absurd (true≢false b.0)
+lower_below (fin false m e) (fin false n d) nan i k a b l h = absurd (true≢false (sym h))
+lower_below (fin false m e) (fin false n d) (inf t) i k a b l h = h
+lower_below (fin false m e) (fin false n d) (fin true o g) i k a b l h = absurd (true≢false (sym h))
+lower_below (fin false m e) (fin false n d) (fin false o g) i k a b l h =
     lt-ltb (m * up e * down g) (o * up g * down e) (lt_of_not-le (λ (r : o * up g * down e ≤ m * up e * down g).
     over (through (o * up g) (m * up e) (n * up d) (down g) (down e) (down d) (down_pos e) r
     (transfer (m * up e) (n * up d) (down e) (down d) i k 1 1 (omega arith) (omega arith) a.1 b.1 (omega arith)))
@@ -48,7 +48,7 @@ module _ (p : Float) where
   none_below h (suc n) l = ap₂ ◌+◌ (none_below h n (omega arith)) (ap one (go (lt (whole (1 + n)) p) refl))
     where
       go : (b : Bool) → lt (whole (1 + n)) p ≡ b → b ≡ false
-      go true e = sym (lower-below (whole 1) (whole (1 + n)) p 1 (1 + n) (whole-value 1 (omega arith)) (whole-value (1 + n) (omega arith)) (omega arith) e) ∙ h
+      go true e = sym (lower_below (whole 1) (whole (1 + n)) p 1 (1 + n) (whole_value 1 (omega arith)) (whole_value (1 + n) (omega arith)) (omega arith) e) ∙ h
       go false e = refl
 
   some_below : lt (whole 1) p ≡ true → (n : ℕ) → 1 ≤ wholes_below (suc n) p
@@ -56,9 +56,9 @@ module _ (p : Float) where
   some_below h zero = rw h (omega arith)
   some_below h (suc n) = let k = some_below h n in omega arith
 
-  pub exposed-is : (N : ℕ) → 1 ≤ N → N < 128 → lt (whole 1) p ≡ not (eqb (wholes_below N p) 0)
-  exposed-is zero l u = absurd (omega arith)
-  exposed-is (suc n) l u = go (lt (whole 1) p) refl
+  pub exposed_is : (N : ℕ) → 1 ≤ N → N < 128 → lt (whole 1) p ≡ not (eqb (wholes_below N p) 0)
+  exposed_is zero l u = absurd (omega arith)
+  exposed_is (suc n) l u = go (lt (whole 1) p) refl
     where
       go : (b : Bool) → lt (whole 1) p ≡ b → b ≡ not (eqb (wholes_below (suc n) p) 0)
       go true h = let k = some_below h n in sym (ap not (ne_eqb (wholes_below (suc n) p) 0 (λ e. omega arith)))

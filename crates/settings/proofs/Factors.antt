@@ -19,17 +19,17 @@ use Rattle.settings.specs.Scaling.{whole, factor_of, positive, scaling_admitted,
 data Above : Float → Type 0 where
   above : (m : ℕ) (e : ℤ) → Above (fin false (suc m) e)
 
-positive-above : (x : Float) → positive x ≡ true → Above x
+positive_above : (x : Float) → positive x ≡ true → Above x
 unfolding positive lt of_int
-positive-above nan h = absurd (true≢false (sym h))
-positive-above (inf s) h = absurd (true≢false (sym h))
-positive-above (fin true m e) h = absurd (true≢false (sym h))
-positive-above (fin false zero e) h = absurd (omega (arith, ltb-true (0 * 1 * down e) (0 * up e * 1) h))
-positive-above (fin false (suc m) e) h = above m e
+positive_above nan h = absurd (true≢false (sym h))
+positive_above (inf s) h = absurd (true≢false (sym h))
+positive_above (fin true m e) h = absurd (true≢false (sym h))
+positive_above (fin false zero e) h = absurd (omega (arith, ltb-true (0 * 1 * down e) (0 * up e * 1) h))
+positive_above (fin false (suc m) e) h = above m e
 
-two-above : Above (whole 2)
+two_above : Above (whole 2)
 unfolding of_int
-two-above = above 0 _
+two_above = above 0 _
 
 -- ---- no NaN, and the sign bit clear
 
@@ -38,53 +38,53 @@ plus nan = false
 plus (inf s) = not s
 plus (fin s m e) = not s
 
-odd-plus : (d q k l : ℕ) → plus (odd d false q k l) ≡ true
+odd_plus : (d q k l : ℕ) → plus (odd d false q k l) ≡ true
 unfolding odd
-odd-plus d zero k l = refl
-odd-plus d (suc q) k l = refl
+odd_plus d zero k l = refl
+odd_plus d (suc q) k l = refl
 
-units-plus : (f : Format) (q k : ℕ) → plus (units f false q k) ≡ true
+units_plus : (f : Format) (q k : ℕ) → plus (units f false q k) ≡ true
 unfolding units
-units-plus f q k = go (ltb (q * 2 ^ k) (2 ^ (low f + suc (emax f))))
+units_plus f q k = go (ltb (q * 2 ^ k) (2 ^ (low f + suc (emax f))))
   where
     go : (b : Bool) → plus (cond b (odd (suc (prec f)) false q k (low f)) (inf false)) ≡ true
-    go true = odd-plus (suc (prec f)) q k (low f)
+    go true = odd_plus (suc (prec f)) q k (low f)
     go false = refl
 
-round-plus : (f : Format) (a b : ℕ) → plus (round f false a b) ≡ true
+round_plus : (f : Format) (a b : ℕ) → plus (round f false a b) ≡ true
 unfolding round
-round-plus f a b = units-plus f _ _
+round_plus f a b = units_plus f _ _
 
-mul-plus : {x y : Float} → Above x → Above y → plus (mul binary32 x y) ≡ true
+mul_plus : {x y : Float} → Above x → Above y → plus (mul binary32 x y) ≡ true
 unfolding mul
-mul-plus (above m e) (above n d) = round-plus binary32 (suc m * up e * (suc n * up d)) (down e * down d)
+mul_plus (above m e) (above n d) = round_plus binary32 (suc m * up e * (suc n * up d)) (down e * down d)
 
-div-plus : (x : Float) {v : Float} → plus x ≡ true → Above v → plus (div binary32 x v) ≡ true
+div_plus : (x : Float) {v : Float} → plus x ≡ true → Above v → plus (div binary32 x v) ≡ true
 unfolding div
-div-plus nan h (above n d) = absurd (true≢false (sym h))
-div-plus (inf true) h (above n d) = absurd (true≢false (sym h))
-div-plus (inf false) h (above n d) = refl
-div-plus (fin true m e) h (above n d) = absurd (true≢false (sym h))
-div-plus (fin false m e) h (above n d) = rw (eqb-suc-zero n) (round-plus binary32 (m * up e * down d) (suc n * up d * down e))
+div_plus nan h (above n d) = absurd (true≢false (sym h))
+div_plus (inf true) h (above n d) = absurd (true≢false (sym h))
+div_plus (inf false) h (above n d) = refl
+div_plus (fin true m e) h (above n d) = absurd (true≢false (sym h))
+div_plus (fin false m e) h (above n d) = rw (eqb-suc-zero n) (round_plus binary32 (m * up e * down d) (suc n * up d * down e))
 
-above-plus : {x : Float} → Above x → plus x ≡ true
-above-plus (above m e) = refl
+above_plus : {x : Float} → Above x → plus x ≡ true
+above_plus (above m e) = refl
 
-factor-plus : (s : Scaling) → scaling_admitted s ≡ true → plus (factor_of s) ≡ true
-factor-plus (Plain gain) h = above-plus (positive-above gain h)
-factor-plus (Noise gain variance) h =
-    div-plus (mul binary32 (whole 2) gain)
-    (mul-plus two-above (positive-above gain (and_left (positive gain) (positive variance) h)))
-    (positive-above variance (and_right (positive gain) (positive variance) h))
+factor_plus : (s : Scaling) → scaling_admitted s ≡ true → plus (factor_of s) ≡ true
+factor_plus (Plain gain) h = above_plus (positive_above gain h)
+factor_plus (Noise gain variance) h =
+    div_plus (mul binary32 (whole 2) gain)
+    (mul_plus two_above (positive_above gain (and_left (positive gain) (positive variance) h)))
+    (positive_above variance (and_right (positive gain) (positive variance) h))
 
-plus-positive : (x : Float) → plus x ≡ true → positive x ≡ not (infinite_or_zero x)
+plus_positive : (x : Float) → plus x ≡ true → positive x ≡ not (infinite_or_zero x)
 unfolding positive lt of_int
-plus-positive nan h = absurd (true≢false (sym h))
-plus-positive (inf s) h = refl
-plus-positive (fin true m e) h = absurd (true≢false (sym h))
-plus-positive (fin false zero e) h = le-ltb (0 * 1 * down e) (0 * up e * 1) (omega arith)
-plus-positive (fin false (suc m) e) h =
+plus_positive nan h = absurd (true≢false (sym h))
+plus_positive (inf s) h = refl
+plus_positive (fin true m e) h = absurd (true≢false (sym h))
+plus_positive (fin false zero e) h = le-ltb (0 * 1 * down e) (0 * up e * 1) (omega arith)
+plus_positive (fin false (suc m) e) h =
     lt-ltb (0 * 1 * down e) (suc m * up e * 1) (simp (zero-mul, mul-one) (mul-pos (zero-lt-suc m) (up_pos e))) ∙ sym (ap not (eqb-suc-zero m))
 
-pub factor-positive : (s : Scaling) → scaling_admitted s ≡ true → positive (factor_of s) ≡ not (infinite_or_zero (factor_of s))
-factor-positive s h = plus-positive (factor_of s) (factor-plus s h)
+pub factor_positive : (s : Scaling) → scaling_admitted s ≡ true → positive (factor_of s) ≡ not (infinite_or_zero (factor_of s))
+factor_positive s h = plus_positive (factor_of s) (factor_plus s h)

@@ -18,11 +18,11 @@ use Rattle.code_sheets.specs.Reader.Storing.{row_judged, lowest_passed, GoesOn}
 use Rattle.code_sheets.specs.declared.Rows.{Rows}
 
 -- what is refused early stays refused
-each-stays : (j : ℕ → Judged) (a d : ℕ) (r : Refusal) → each j a ≡ Refused r → each j (a + d) ≡ Refused r
-each-stays j a zero r e = ap (each j) (add-zero a) ∙ e
-each-stays j a (suc d) r e =
+each_stays : (j : ℕ → Judged) (a d : ℕ) (r : Refusal) → each j a ≡ Refused r → each j (a + d) ≡ Refused r
+each_stays j a zero r e = ap (each j) (add-zero a) ∙ e
+each_stays j a (suc d) r e =
     let n : a + suc d ≡ a + d + 1 = omega arith in
-    ap (each j) n ∙ each_next j (a + d) ∙ ap (λ (x : Judged). or_else x (j (a + d))) (each-stays j a d r e)
+    ap (each j) n ∙ each_next j (a + d) ∙ ap (λ (x : Judged). or_else x (j (a + d))) (each_stays j a d r e)
 
 -- the rows after row i begin at entry k, up to row c
 module _ (start : ℕ → ℕ) (i c k : ℕ) (l : i < c) (s : (j : ℕ) → i < j → j ≤ c → k ≡ start j) where
@@ -43,7 +43,7 @@ module _ (start : ℕ → ℕ) (i c k : ℕ) (l : i < c) (s : (j : ℕ) → i < 
           → each (row_judged start) c ≡ unless (leb c (lowest_passed low i degree)) (Degree (lowest_passed low i degree))
       go (yes v) b t u =
           let n : c ≡ i + (c - i) = omega arith in
-          ap (each (row_judged start)) n ∙ each-stays (row_judged start) i (c - i) (Degree low) (e ∙ rw (lt-leb i low v)) ∙ rw (lt-ltb low i v, lt-leb c low (omega arith))
+          ap (each (row_judged start)) n ∙ each_stays (row_judged start) i (c - i) (Degree low) (e ∙ rw (lt-leb i low v)) ∙ rw (lt-ltb low i v, lt-leb c low (omega arith))
       go (no v) false t u = each_at (row_judged start) i c (Degree i) (e ∙ rw (le-leb i low (omega arith))) (here ∙ rw t) l ∙ rw (le-ltb low i (omega arith), t, lt-leb c i l)
       go (no v) true t (no u) =
           let n : c ≡ i + 1 = omega arith in
@@ -60,9 +60,9 @@ pub goes_same : {rows : Rows} {c k : ℕ} → rows.check ≡ c → rows.first �
 goes_same e l = record { check = e; first = l; holds = λ start h s. h }
 
 -- another
-pub goes-next : {rows : Rows} {c k low : ℕ} → rows.check < c → low ≡ lowest_passed rows.low rows.check (k - rows.first)
+pub goes_next : {rows : Rows} {c k low : ℕ} → rows.check < c → low ≡ lowest_passed rows.low rows.check (k - rows.first)
     → GoesOn rows c k (record { low = low; check = c; first = k })
-goes-next {rows} {c} {k} {low} l e = record {
+goes_next {rows} {c} {k} {low} l e = record {
   check = refl;
   first = omega arith;
   holds = λ start h s.

@@ -16,56 +16,56 @@ use Rattle.refusals.specs.declared.Judged.TheVariants.{Admitted, Refused}
 use Rattle.refusals.proofs.Judging.{each_none}
 use Rattle.words.specs.Words.{stored, table}
 use Rattle.words.specs.Roles.{wide, column_at, degree_at}
-use Rattle.words.proofs.Words.{word_same, word-other}
+use Rattle.words.proofs.Words.{word_same, word_other}
 use Rattle.graphs.specs.Counting.{tally}
-use Rattle.degrees.proofs.Tallies.{Tallies, Cleared, tallies-none, tallies-long, tallies-small, tallies-more, tallies-from}
+use Rattle.degrees.proofs.Tallies.{Tallies, Cleared, tallies_none, tallies_long, tallies_small, tallies_more, tallies_from}
 use Rattle.graphs.specs.Judging.{check_degrees_judged}
 use Rattle.texts.specs.Lines.{pair, line}
 use Rattle.texts.specs.Places.{LineRead, KnownLine}
 use Rattle.code_sheets.specs.Text.Reading.{Lines, start_in, column_in}
 use Rattle.code_sheets.specs.Text.Scanning.{counted}
 use Rattle.code_sheets.specs.declared.Counts.{Counts}
-use Rattle.code_sheets.proofs.Text.Entries.{start-zero, column-within}
+use Rattle.code_sheets.proofs.Text.Entries.{start_zero, column_within}
 use Rattle.code_sheets.specs.Reader.Storing.{lines_graph, graph_from, EntriesAt, row_judged, GoesOn, CountedInto}
 use Rattle.code_sheets.specs.declared.Rows.{Rows}
 use Rattle.sheet_lines.specs.Passing.{At, Reached, ReadTo, Ahead, ReadsOn}
 use Rattle.sheet_lines.specs.Adding.{Next, Addable, AddsOn}
-use Rattle.sheet_lines.proofs.Passing.{pass-none, pass-known, pass-numbers, pass-starts, pass-column, pass-more, pass-ends, entries-rising}
+use Rattle.sheet_lines.proofs.Passing.{pass_none, pass_known, pass_numbers, pass_starts, pass_column, pass_more, pass_ends, entries_rising}
 
 -- ---- reading
 
 module _ {s : List ℕ} {counts : Counts} {from : ℕ} (h : EntriesAt s counts from) where
   -- the columns of the graph
-  columns-are : (graph_from s counts from).column ≡ column_in h.entries
-  columns-are = ap (λ (x : Lines). (lines_graph x).column) h.are
+  columns_are : (graph_from s counts from).column ≡ column_in h.entries
+  columns_are = ap (λ (x : Lines). (lines_graph x).column) h.are
 
-  reached-none : Reached s counts from (record { low = 0; check = 0; first = 0 }) from 0
-  reached-none = record {
-    pass = record { held = h; at = pass-none h (omega arith) };
-    rows_are = record { judged = each_none (row_judged (start_in h.entries)); first = sym (start-zero h.entries) };
+  reached_none : Reached s counts from (record { low = 0; check = 0; first = 0 }) from 0
+  reached_none = record {
+    pass = record { held = h; at = pass_none h (omega arith) };
+    rows_are = record { judged = each_none (row_judged (start_in h.entries)); first = sym (start_zero h.entries) };
     first = omega arith;
   }
 
 module _ {s : List ℕ} {counts : Counts} {from : ℕ} {rows : Rows} {i k : ℕ} (q : Reached s counts from rows i k) (h : k < counts.entries) where
-  pub reached-known : KnownLine s i
-  reached-known = pass-known q.pass h
+  pub reached_known : KnownLine s i
+  reached_known = pass_known q.pass h
 
   module _ {a b next : ℕ} (r : LineRead (line (drop i s)) s i a b next) where
-    pub reached-row : (rows.check ≤ a) × (a ≤ limits.checks) × (rows.first ≤ k)
-    reached-row = let n = pass-numbers q.pass h r in (omega (arith, n), omega (arith, n, q.pass.held.small.checks), q.first)
+    pub reached_row : (rows.check ≤ a) × (a ≤ limits.checks) × (rows.first ≤ k)
+    reached_row = let n = pass_numbers q.pass h r in (omega (arith, n), omega (arith, n, q.pass.held.small.checks), q.first)
 
-    pub reached-variable : b < 256 ^ wide
-    reached-variable = omega (arith, pass-numbers q.pass h r, q.pass.held.small.variables)
+    pub reached_variable : b < 256 ^ wide
+    reached_variable = omega (arith, pass_numbers q.pass h r, q.pass.held.small.variables)
 
-    reached-column : b ≡ (graph_from s counts from).column k
-    reached-column = pass-column q.pass h r ∙ sym (ap (λ (f : ℕ → ℕ). f k) (columns-are q.pass.held))
+    reached_column : b ≡ (graph_from s counts from).column k
+    reached_column = pass_column q.pass h r ∙ sym (ap (λ (f : ℕ → ℕ). f k) (columns_are q.pass.held))
 
-    reached-more : {rows' : Rows} → GoesOn rows a k rows' → Reached s counts from rows' next (k + 1)
-    reached-more {rows'} g =
+    reached_more : {rows' : Rows} → GoesOn rows a k rows' → Reached s counts from rows' next (k + 1)
+    reached_more {rows'} g =
         let w = q.pass.held in
         record {
-          pass = record { held = w; at = subst (λ (x : ℕ). At (counted counts) w.entries s next (k + 1) (x + 1)) (sym g.check) (pass-more q.pass h r) };
-          rows_are = g.holds (start_in w.entries) q.rows_are (λ j l u. pass-starts q.pass h r j (omega arith) (omega arith));
+          pass = record { held = w; at = subst (λ (x : ℕ). At (counted counts) w.entries s next (k + 1) (x + 1)) (sym g.check) (pass_more q.pass h r) };
+          rows_are = g.holds (start_in w.entries) q.rows_are (λ j l u. pass_starts q.pass h r j (omega arith) (omega arith));
           first = omega (arith, g.first);
         }
 
@@ -85,18 +85,18 @@ read_more size {s} {rows₂ = rows₂} {k = k} {j = j} {b = b} {next = next} {bl
     let p = on counts from q u in
     let h : k + j < counts.entries = omega arith in
     record {
-      reached = subst (Reached s counts from rows₂ next) (add_assoc k j 1) (reached-more p.reached h r g);
+      reached = subst (Reached s counts from rows₂ next) (add_assoc k j 1) (reached_more p.reached h r g);
       columns = λ x y. go x y (dec_lt x j);
     }
   where
     go : (x : ℕ) → x < j + 1 → Dec (x < j) → column_at later x ≡ (graph_from s counts from).column (k + x)
-    go x y (yes z) = ap (λ (t : List ℕ). column_at t x) e ∙ word-other wide block j b x (omega arith) ∙ (on counts from q u).columns x z
+    go x y (yes z) = ap (λ (t : List ℕ). column_at t x) e ∙ word_other wide block j b x (omega arith) ∙ (on counts from q u).columns x z
     go x y (no z) =
         let h : k + j < counts.entries = omega arith in
         let same : x ≡ j = omega arith in
         ap (λ (t : List ℕ). column_at t x) e ∙ ap (λ (t : ℕ). column_at (stored wide block (wide * j) b) t) same
-        ∙ word_same wide block (wide * j) b (omega arith) (reached-variable (on counts from q u).reached h r)
-        ∙ reached-column (on counts from q u).reached h r ∙ ap (λ (t : ℕ). (graph_from s counts from).column (k + t)) (sym same)
+        ∙ word_same wide block (wide * j) b (omega arith) (reached_variable (on counts from q u).reached h r)
+        ∙ reached_column (on counts from q u).reached h r ∙ ap (λ (t : ℕ). (graph_from s counts from).column (k + t)) (sym same)
 
 -- the whole block
 pub read_all : (size : ℕ) {s : List ℕ} {rows rows' : Rows} {i k j next : ℕ} {block : List ℕ} → j ≡ size → ReadsOn s rows i k rows' next block j size
@@ -107,19 +107,19 @@ pub add_none : {block : List ℕ} {size : ℕ} {d : List ℕ} → AddsOn block s
 add_none {block} {size} {d} n column old k t x = subst (Tallies 4 n column old d) (sym (add-zero k)) t
 
 module _ {block : List ℕ} {size : ℕ} {d d₁ : List ℕ} {j : ℕ} (on : AddsOn block size d d₁ j) (l : j < size) {v : ℕ} (e : v ≡ column_at block j) where
-  pub add-room : Addable block d size → (v < length d₁ / 4) × (degree_at d₁ v + 1 < 2 ^ 32)
-  add-room a =
+  pub add_room : Addable block d size → (v < length d₁ / 4) × (degree_at d₁ v + 1 < 2 ^ 32)
+  add_room a =
       let t = on a.variables a.column a.old a.k a.tallies a.next in
       let u : v < a.variables = omega (arith, a.next.columns j l, a.next.within j l) in
-      (omega (arith, tallies-long t), omega (arith, a.next.small, tallies-small t u (omega (arith, a.next.small))))
+      (omega (arith, tallies_long t), omega (arith, a.next.small, tallies_small t u (omega (arith, a.next.small))))
 
-  pub add-more : {d₂ : List ℕ} → d₂ ≡ stored 4 d₁ (4 * v) (degree_at d₁ v + 1) → AddsOn block size d d₂ (j + 1)
-  add-more {d₂} w n column old k t x =
+  pub add_more : {d₂ : List ℕ} → d₂ ≡ stored 4 d₁ (4 * v) (degree_at d₁ v + 1) → AddsOn block size d d₂ (j + 1)
+  add_more {d₂} w n column old k t x =
       subst (Tallies 4 n column old d₂) (add_assoc k j 1)
-      (tallies-more (on n column old k t x) (omega (arith, x.columns j l, x.within j l)) (omega (arith, x.small)) (e ∙ x.columns j l) w)
+      (tallies_more (on n column old k t x) (omega (arith, x.columns j l, x.within j l)) (omega (arith, x.small)) (e ∙ x.columns j l) w)
 
-pub add-all : {block : List ℕ} {size : ℕ} {d d' : List ℕ} {j : ℕ} → j ≡ size → AddsOn block size d d' j → AddsOn block size d d' size
-add-all {d' = d'} e on n column old k t x = subst (λ j. Tallies 4 n column old d' (k + j)) e (on n column old k t x)
+pub add_all : {block : List ℕ} {size : ℕ} {d d' : List ℕ} {j : ℕ} → j ≡ size → AddsOn block size d d' j → AddsOn block size d d' size
+add_all {d' = d'} e on n column old k t x = subst (λ j. Tallies 4 n column old d' (k + j)) e (on n column old k t x)
 
 -- ---- the pass
 
@@ -128,60 +128,60 @@ pub record Counting (s : List ℕ) (counts : Counts) (from : ℕ) (old now : Lis
   pub reached : Reached s counts from rows i k
   pub tallies : Tallies 4 counts.variables (graph_from s counts from).column old now k
 
-pub counting-none : {s : List ℕ} {counts : Counts} {from : ℕ} (older : List ℕ) {old : List ℕ} → EntriesAt s counts from → Cleared 4 counts.variables older old
+pub counting_none : {s : List ℕ} {counts : Counts} {from : ℕ} (older : List ℕ) {old : List ℕ} → EntriesAt s counts from → Cleared 4 counts.variables older old
     → Counting s counts from old old (record { low = 0; check = 0; first = 0 }) from 0
-counting-none {s} {counts} {from} older h e = record { reached = reached-none h; tallies = tallies-none 4 counts.variables (graph_from s counts from).column older e }
+counting_none {s} {counts} {from} older h e = record { reached = reached_none h; tallies = tallies_none 4 counts.variables (graph_from s counts from).column older e }
 
 module _ {s : List ℕ} {counts : Counts} {from : ℕ} {old now : List ℕ} {rows : Rows} {i k : ℕ} (q : Counting s counts from old now rows i k) where
   module _ {size : ℕ} (l : k + size ≤ counts.entries) where
-    pub counting-ahead : Ahead s rows i k size
-    counting-ahead = record { counts = counts; from = from; reached = q.reached; enough = l }
+    pub counting_ahead : Ahead s rows i k size
+    counting_ahead = record { counts = counts; from = from; reached = q.reached; enough = l }
 
     module _ {rows' : Rows} {next : ℕ} {block : List ℕ} (on : ReadsOn s rows i k rows' next block size size) where
-      block-next : Next counts.variables (graph_from s counts from).column block k size
-      block-next = let w = q.reached.pass.held in record {
+      block_next : Next counts.variables (graph_from s counts from).column block k size
+      block_next = let w = q.reached.pass.held in record {
         columns = (on counts from q.reached l).columns;
         within = λ e u.
-            omega (arith, ap (λ (f : ℕ → ℕ). f (k + e)) (columns-are w), column-within (counted counts) (pair 0 0) w.entries (entries-rising w) (k + e) (omega (arith, w.many)));
+            omega (arith, ap (λ (f : ℕ → ℕ). f (k + e)) (columns_are w), column_within (counted counts) (pair 0 0) w.entries (entries_rising w) (k + e) (omega (arith, w.many)));
         small = omega (arith, w.small.entries);
       }
 
-      pub counting-addable : Addable block now size
-      counting-addable = record {
+      pub counting_addable : Addable block now size
+      counting_addable = record {
         variables = counts.variables;
         column = (graph_from s counts from).column;
         old = old;
         k = k;
         tallies = q.tallies;
-        next = block-next;
+        next = block_next;
       }
 
       pub counting_more : {later : List ℕ} → AddsOn block size now later size → Counting s counts from old later rows' next (k + size)
       counting_more a = record {
         reached = (on counts from q.reached l).reached;
-        tallies = a counts.variables (graph_from s counts from).column old k q.tallies block-next;
+        tallies = a counts.variables (graph_from s counts from).column old k q.tallies block_next;
       }
 
-  pub counting-last : rows.check ≤ counts.checks
-  counting-last = omega (arith, q.reached.pass.at.high)
+  pub counting_last : rows.check ≤ counts.checks
+  counting_last = omega (arith, q.reached.pass.at.high)
 
   -- after the last line
   module _ (e : k ≡ counts.entries) {rows' : Rows} (g : GoesOn rows counts.checks k rows') (older : List ℕ) (z : Cleared 4 counts.variables older old) where
-    counting-all : CountedInto (graph_from s counts from) (unless (leb counts.checks rows'.low) (Degree rows'.low)) older now
+    counting_all : CountedInto (graph_from s counts from) (unless (leb counts.checks rows'.low) (Degree rows'.low)) older now
     unfolding check_degrees_judged variable_degree
-    counting-all =
+    counting_all =
         let w = q.reached.pass.held in
-        let to = g.holds (start_in w.entries) q.reached.rows_are (λ j l u. pass-ends q.reached.pass (omega arith) j (omega arith)) in
+        let to = g.holds (start_in w.entries) q.reached.rows_are (λ j l u. pass_ends q.reached.pass (omega arith) j (omega arith)) in
         subst (λ (x : Lines). CountedInto (lines_graph x) (unless (leb counts.checks rows'.low) (Degree rows'.low)) older now) (sym w.are)
         (record {
           judged = sym (subst (λ (m : ℕ). each (row_judged (start_in w.entries)) m ≡ unless (leb m rows'.low) (Degree rows'.low)) g.check to.judged);
-          degrees = tallies-from q.tallies older z
-              ∙ ap (λ (f : ℕ → ℕ). table 4 (tally f k) counts.variables ++ drop (4 * counts.variables) older) (columns-are w)
+          degrees = tallies_from q.tallies older z
+              ∙ ap (λ (f : ℕ → ℕ). table 4 (tally f k) counts.variables ++ drop (4 * counts.variables) older) (columns_are w)
               ∙ ap (λ (n : ℕ). table 4 (tally (column_in w.entries) n) counts.variables ++ drop (4 * counts.variables) older) (e ∙ sym w.many);
         })
 
-    pub counting-refused : rows'.low < counts.checks → CountedInto (graph_from s counts from) (Refused (Degree rows'.low)) older now
-    counting-refused l = subst (λ (j : Judged). CountedInto (graph_from s counts from) j older now) (rw (lt-leb counts.checks rows'.low l)) counting-all
+    pub counting_refused : rows'.low < counts.checks → CountedInto (graph_from s counts from) (Refused (Degree rows'.low)) older now
+    counting_refused l = subst (λ (j : Judged). CountedInto (graph_from s counts from) j older now) (rw (lt-leb counts.checks rows'.low l)) counting_all
 
-    pub counting-admitted : counts.checks ≤ rows'.low → CountedInto (graph_from s counts from) Admitted older now
-    counting-admitted l = subst (λ (j : Judged). CountedInto (graph_from s counts from) j older now) (rw (le-leb counts.checks rows'.low l)) counting-all
+    pub counting_admitted : counts.checks ≤ rows'.low → CountedInto (graph_from s counts from) Admitted older now
+    counting_admitted l = subst (λ (j : Judged). CountedInto (graph_from s counts from) j older now) (rw (le-leb counts.checks rows'.low l)) counting_all

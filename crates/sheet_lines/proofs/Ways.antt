@@ -13,11 +13,11 @@ use Rattle.refusals.specs.declared.Refusal.{Refusal}
 use Rattle.refusals.specs.declared.Refusal.TheVariants.{Buffer}
 use Rattle.refusals.specs.declared.Judged.{Judged}
 use Rattle.refusals.specs.declared.Judged.TheVariants as Judgement
-use Rattle.refusals.proofs.Judging.{or_else-right, unless-true}
+use Rattle.refusals.proofs.Judging.{or_else_right, unless_true}
 use Rattle.rules.proofs.Tests.{and_left, and_right, and_no}
 use Rattle.words.specs.Roles.{wide, degree_at}
 use Rattle.graphs.specs.Variables.{variables_judged}
-use Rattle.graphs.proofs.Lending.{variables-off}
+use Rattle.graphs.proofs.Lending.{variables_off}
 use Rattle.graphs.specs.Judging.{variable_degrees_judged, degrees_judged}
 use Rattle.code_sheets.specs.Text.Reading.{Lines}
 use Rattle.code_sheets.specs.declared.Counts.{Counts}
@@ -30,8 +30,8 @@ module _ {t : List ℕ} {k : Counts} {at : ℕ} (h : EntriesAt t k at) where
   G = graph_from t k at
 
   -- the counts of the graph, as the code has them
-  pub counts-are : (G.variables ≡ k.variables) × (G.checks ≡ k.checks) × (G.entries ≡ k.entries)
-  counts-are = (
+  pub counts_are : (G.variables ≡ k.variables) × (G.checks ≡ k.checks) × (G.entries ≡ k.entries)
+  counts_are = (
     ap (λ (x : Lines). (lines_graph x).variables) h.are,
     ap (λ (x : Lines). (lines_graph x).checks) h.are,
     ap (λ (x : Lines). (lines_graph x).entries) h.are ∙ h.many,
@@ -40,68 +40,68 @@ module _ {t : List ℕ} {k : Counts} {at : ℕ} (h : EntriesAt t k at) where
   -- ---- what is refused after the last line
 
   -- the list of degrees is too short
-  pub degrees-short : {d : List ℕ} {s c : ℕ} → length d / 4 < k.variables → AfterLines G (Judgement.Refused Buffer) d d s c
-  degrees-short {d} l =
-      let no = lt-leb (4 * G.variables) (length d) (omega (arith, counts-are)) in
+  pub degrees_short : {d : List ℕ} {s c : ℕ} → length d / 4 < k.variables → AfterLines G (Judgement.Refused Buffer) d d s c
+  degrees_short {d} l =
+      let no = lt-leb (4 * G.variables) (length d) (omega (arith, counts_are)) in
       record { judged = rw no; degrees = rw no }
 
   module _ {d d' : List ℕ} (room : k.variables ≤ length d / 4) {j : Judged} (q : CountedInto G j d d') where
     fit : room_for_degrees G (length d) ≡ true
-    fit = le-leb (4 * G.variables) (length d) (omega (arith, counts-are))
+    fit = le-leb (4 * G.variables) (length d) (omega (arith, counts_are))
 
     held : d' ≡ degrees_in G d
     held = q.degrees ∙ sym (rw fit)
 
-    pub checks-refused : {s c : ℕ} {r : Refusal} → j ≡ Judgement.Refused r → AfterLines G (Judgement.Refused r) d d' s c
-    checks-refused e = record { judged = rw (fit, sym q.judged ∙ e); degrees = held }
+    pub checks_refused : {s c : ℕ} {r : Refusal} → j ≡ Judgement.Refused r → AfterLines G (Judgement.Refused r) d d' s c
+    checks_refused e = record { judged = rw (fit, sym q.judged ∙ e); degrees = held }
 
     -- the variables' degrees, off the list
-    variables-are : variables_judged limits k.checks (degree_at d') k.variables ≡ variable_degrees_judged limits G
-    variables-are =
-        variables-off limits G d q.degrees (omega (arith, counts-are, h.small.entries)) (omega (arith, counts-are)) (omega (arith, counts-are))
+    variables_are : variables_judged limits k.checks (degree_at d') k.variables ≡ variable_degrees_judged limits G
+    variables_are =
+        variables_off limits G d q.degrees (omega (arith, counts_are, h.small.entries)) (omega (arith, counts_are)) (omega (arith, counts_are))
 
     module _ (a : j ≡ Judgement.Admitted) {i : Judged} (v : i ≡ variables_judged limits k.checks (degree_at d') k.variables) where
-      degrees-are : degrees_judged limits G ≡ i
-      degrees-are = rw (sym q.judged ∙ a) (sym (v ∙ variables-are))
+      degrees_are : degrees_judged limits G ≡ i
+      degrees_are = rw (sym q.judged ∙ a) (sym (v ∙ variables_are))
 
-      pub variables-refused : {s c : ℕ} {r : Refusal} → i ≡ Judgement.Refused r → AfterLines G (Judgement.Refused r) d d' s c
-      variables-refused e = record { judged = rw (fit, degrees-are ∙ e); degrees = held }
+      pub variables_refused : {s c : ℕ} {r : Refusal} → i ≡ Judgement.Refused r → AfterLines G (Judgement.Refused r) d d' s c
+      variables_refused e = record { judged = rw (fit, degrees_are ∙ e); degrees = held }
 
       module _ (e : i ≡ Judgement.Admitted) where
-        pub starts-short : {s c : ℕ} → s / wide ≤ k.checks → AfterLines G (Judgement.Refused Buffer) d d' s c
-        starts-short {s} {c} l = record { judged = rw (fit, degrees-are ∙ e, lt-leb (wide * suc G.checks) s (omega (arith, counts-are))); degrees = held }
+        pub starts_short : {s c : ℕ} → s / wide ≤ k.checks → AfterLines G (Judgement.Refused Buffer) d d' s c
+        starts_short {s} {c} l = record { judged = rw (fit, degrees_are ∙ e, lt-leb (wide * suc G.checks) s (omega (arith, counts_are))); degrees = held }
 
-        pub columns-short : {s c : ℕ} → c / wide < k.entries → AfterLines G (Judgement.Refused Buffer) d d' s c
-        columns-short {s} {c} l = record {
-          judged = rw (fit, degrees-are ∙ e, lt-leb (wide * G.entries) c (omega (arith, counts-are)), and_no (leb (wide * suc G.checks) s));
+        pub columns_short : {s c : ℕ} → c / wide < k.entries → AfterLines G (Judgement.Refused Buffer) d d' s c
+        columns_short {s} {c} l = record {
+          judged = rw (fit, degrees_are ∙ e, lt-leb (wide * G.entries) c (omega (arith, counts_are)), and_no (leb (wide * suc G.checks) s));
           degrees = held;
         }
 
-        pub long-enough : {s c : ℕ} → k.checks < s / wide → k.entries ≤ c / wide → AfterLines G Judgement.Admitted d d' s c
-        long-enough {s} {c} ls lc = record {
-          judged = rw (fit, degrees-are ∙ e, le-leb (wide * suc G.checks) s (omega (arith, counts-are)), le-leb (wide * G.entries) c (omega (arith, counts-are)));
+        pub long_enough_lem : {s c : ℕ} → k.checks < s / wide → k.entries ≤ c / wide → AfterLines G Judgement.Admitted d d' s c
+        long_enough_lem {s} {c} ls lc = record {
+          judged = rw (fit, degrees_are ∙ e, le-leb (wide * suc G.checks) s (omega (arith, counts_are)), le-leb (wide * G.entries) c (omega (arith, counts_are)));
           degrees = held;
         }
 
   -- ---- the answer, and the lists
 
   module _ {d d' : List ℕ} (st co : List ℕ) {j : Judged} (q : AfterLines G j d d' (length st) (length co)) where
-    pub finished-refused : {r : Refusal} → j ≡ Judgement.Refused r → Finished G (Answer.Refused r) d d' st st co co
-    finished-refused e = record { read = rw (sym q.judged ∙ e) (record { answer = refl; starts = refl; columns = refl }); degrees = q.degrees }
+    pub finished_refused : {r : Refusal} → j ≡ Judgement.Refused r → Finished G (Answer.Refused r) d d' st st co co
+    finished_refused e = record { read = rw (sym q.judged ∙ e) (record { answer = refl; starts = refl; columns = refl }); degrees = q.degrees }
 
     module _ (e : j ≡ Judgement.Admitted) where
-      pub room-told : (wide * suc k.checks ≤ length st) × (wide * k.entries ≤ length co)
-      room-told =
+      pub room_told : (wide * suc k.checks ≤ length st) × (wide * k.entries ≤ length co)
+      room_told =
           let a = leb (wide * suc G.checks) (length st) in
           let b = leb (wide * G.entries) (length co) in
-          let lists = or_else-right (unless (room_for_degrees G (length d)) Buffer) (after_lines limits G (length st) (length co)) (sym q.judged ∙ e) in
-          let room = unless-true (room_for G (length st) (length co)) Buffer (or_else-right (degrees_judged limits G) (unless (room_for G (length st) (length co)) Buffer) lists) in (
-            omega (arith, counts-are, leb-true (wide * suc G.checks) (length st) (and_left a b room)),
-            omega (arith, counts-are, leb-true (wide * G.entries) (length co) (and_right a b room)),
+          let lists = or_else_right (unless (room_for_degrees G (length d)) Buffer) (after_lines limits G (length st) (length co)) (sym q.judged ∙ e) in
+          let room = unless_true (room_for G (length st) (length co)) Buffer (or_else_right (degrees_judged limits G) (unless (room_for G (length st) (length co)) Buffer) lists) in (
+            omega (arith, counts_are, leb-true (wide * suc G.checks) (length st) (and_left a b room)),
+            omega (arith, counts_are, leb-true (wide * G.entries) (length co) (and_right a b room)),
           )
 
-      pub finished-all : {st' co' : List ℕ} → Stores G st st' co co' → Finished G (Answer.Read k) d d' st st' co co'
-      finished-all m = record { read = rw (sym q.judged ∙ e) (record { answer = answer; starts = m.starts; columns = m.columns }); degrees = q.degrees }
+      pub finished_all : {st' co' : List ℕ} → Stores G st st' co co' → Finished G (Answer.Read k) d d' st st' co co'
+      finished_all m = record { read = rw (sym q.judged ∙ e) (record { answer = answer; starts = m.starts; columns = m.columns }); degrees = q.degrees }
         where
           answer : Answer.Read k ≡ answer_of (graph G)
           answer = rw (h.are, h.many)

@@ -5,7 +5,7 @@ use native.Mathlib.Numerals.{add-one}
 use native.Mathlib.Omega.{arith}
 use Rattle.rules.specs.Graphs.{Graph, limits, Admitted, check_degree}
 use Rattle.texts.specs.Lines.{pair, line_text}
-use Rattle.rules.proofs.Rows.{admitted-row}
+use Rattle.rules.proofs.Rows.{admitted_row}
 use Rattle.code_sheets.proofs.Writer.Texts.{entry_line}
 
 -- row i is the entries from a to before b
@@ -18,7 +18,7 @@ pub record Row (G : Graph) (i a b : ℕ) : Type 0 where
 module _ {G : Graph} (ad : Admitted G) {i a b : ℕ} where
   pub row_read : i < G.checks → a ≡ G.start i → b ≡ G.start (i + 1) → Row G i a b
   row_read l p q =
-      let r = admitted-row G ad i l p q in
+      let r = admitted_row G ad i l p q in
       let s : b ≡ G.start (suc i) = q ∙ ap G.start (add-one i) in
       record { begins = p; degree = omega arith; few = omega arith; within = r.2 }
 

@@ -11,12 +11,12 @@ use lib.IntN.{ℤ, pos, nat_abs}
 use Rattle.rules.specs.Ranges.{tabulate}
 use Rattle.rules.specs.Levels.{Level, level_of, largest}
 use Rattle.rules.specs.Nodes.{Lifting, never, lifts, lifted, counted, contribution}
-use Rattle.rules.proofs.Bounds.{abs-contribution}
-use Rattle.rules.proofs.Own.{largest-within}
-use Rattle.rules.proofs.Lifts.{counted-off, lifts-before}
+use Rattle.rules.proofs.Bounds.{abs_contribution}
+use Rattle.rules.proofs.Own.{largest_within}
+use Rattle.rules.proofs.Lifts.{counted_off, lifts_before}
 use Rattle.nodes.specs.Lists.{Parts, up_to}
-use Rattle.nodes.proofs.Leaves.{magnitude-small, either-small}
-use Rattle.nodes.proofs.SumLaws.{parts-of}
+use Rattle.nodes.proofs.Leaves.{magnitude_small, either_small}
+use Rattle.nodes.proofs.SumLaws.{parts_of}
 use Rattle.settings.specs.declared.Settings.{Settings}
 use Rattle.settings.specs.Theorems.{Admissible}
 use Rattle.steps.specs.Steps.{lifting_in, parts_in, parts_under}
@@ -31,27 +31,27 @@ part_small Nq Λ t b w = within (leb l.magnitude Nq)
     l = level_of b
 
     go : (x : Bool) → (cond x (lifted Nq Λ.to l) l).magnitude ≤ 127
-    go true = either-small (eqb l.magnitude Nq) Λ.to l.magnitude 127 (omega arith) (magnitude-small b)
-    go false = magnitude-small b
+    go true = either_small (eqb l.magnitude Nq) Λ.to l.magnitude 127 (omega arith) (magnitude_small b)
+    go false = magnitude_small b
 
     within : (x : Bool) → nat_abs (cond x (contribution 1 (counted Nq Λ t l)) (pos 0)) ≤ 255
-    within true = omega (arith, abs-contribution 1 (counted Nq Λ t l), go (lifts Λ t))
+    within true = omega (arith, abs_contribution 1 (counted Nq Λ t l), go (lifts Λ t))
     within false = omega arith
 
-parts-small : (Nq : ℕ) (Λ : Lifting) (t : ℕ) {parts : List ℤ} → Λ.to ≤ 15 → parts ≡ parts_in Nq Λ t → Parts parts
-parts-small Nq Λ t w e = parts-of (up_to Nq (λ l. contribution 1 (counted Nq Λ t l))) e (λ b. part_small Nq Λ t b w)
+parts_small : (Nq : ℕ) (Λ : Lifting) (t : ℕ) {parts : List ℤ} → Λ.to ≤ 15 → parts ≡ parts_in Nq Λ t → Parts parts
+parts_small Nq Λ t w e = parts_of (up_to Nq (λ l. contribution 1 (counted Nq Λ t l))) e (λ b. part_small Nq Λ t b w)
 
 -- ---- from one iteration to the next
 
 module _ (Nq : ℕ) (Λ : Lifting) (t : ℕ) where
   -- before L every message counts as it is
-  pub parts-before : t < Λ.from → parts_in Nq Λ t ≡ tabulate (up_to Nq (contribution 1)) 256
-  parts-before u = ap (λ f. tabulate (up_to Nq f) 256) (fun_ext (λ l. ap (contribution 1) (counted-off Nq Λ t (lifts-before Λ t u) l)))
+  pub parts_before : t < Λ.from → parts_in Nq Λ t ≡ tabulate (up_to Nq (contribution 1)) 256
+  parts_before u = ap (λ f. tabulate (up_to Nq f) 256) (fun_ext (λ l. ap (contribution 1) (counted_off Nq Λ t (lifts_before Λ t u) l)))
 
   -- from L on the list is lifted
-  pub parts-lifted : {parts : List ℤ} → Λ.from ≤ t → t < 256 → parts ≡ tabulate (up_to Nq (λ l. contribution 1 (lifted Nq Λ.to l))) 256 → parts ≡ parts_in Nq Λ t
+  pub parts_lifted : {parts : List ℤ} → Λ.from ≤ t → t < 256 → parts ≡ tabulate (up_to Nq (λ l. contribution 1 (lifted Nq Λ.to l))) 256 → parts ≡ parts_in Nq Λ t
   unfolding lifts counted
-  parts-lifted l u p =
+  parts_lifted l u p =
       p ∙ ap (λ x. tabulate (up_to Nq (λ l. contribution 1 (cond x (lifted Nq Λ.to l) l))) 256)
       (sym (ap₂ (λ a b. a && not b) (le-leb Λ.from t l) (ne_eqb Λ.from never (λ h. omega arith))))
 
@@ -67,8 +67,8 @@ module _ (Nq : ℕ) (Λ : Lifting) (t : ℕ) where
 
 -- ---- under checked settings
 
-pub small-under : {s : Settings} → Admissible s → largest s.message < 8
-small-under {s} good = omega (arith, largest-within s.message (omega (arith, good.message, good.channel)))
+pub small_under : {s : Settings} → Admissible s → largest s.message < 8
+small_under {s} good = omega (arith, largest_within s.message (omega (arith, good.message, good.channel)))
 
-pub parts-under : {s : Settings} → Admissible s → (t : ℕ) {parts : List ℤ} → parts ≡ parts_under s t → Parts parts
-parts-under {s} good t p = parts-small (largest s.message) (lifting_in s) t good.lifting.3 p
+pub parts_under_lem : {s : Settings} → Admissible s → (t : ℕ) {parts : List ℤ} → parts ≡ parts_under s t → Parts parts
+parts_under_lem {s} good t p = parts_small (largest s.message) (lifting_in s) t good.lifting.3 p

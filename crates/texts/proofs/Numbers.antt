@@ -11,11 +11,11 @@ use Rattle.texts.specs.Numbers.{digits, decimal, other, value, digit, more, numb
 
 -- ---- the text of a number
 
-digits-enough : (f g k : ℕ) → k < f → k < g → digits f k ≡ digits g k
+digits_enough : (f g k : ℕ) → k < f → k < g → digits f k ≡ digits g k
 unfolding digits
-digits-enough zero g k h1 h2 = absurd (not-suc-le-zero h1)
-digits-enough (suc f) zero k h1 h2 = absurd (not-suc-le-zero h2)
-digits-enough (suc f) (suc g) k h1 h2 = go (digits-enough f g (k / 10)) (ltb k 10) refl
+digits_enough zero g k h1 h2 = absurd (not-suc-le-zero h1)
+digits_enough (suc f) zero k h1 h2 = absurd (not-suc-le-zero h2)
+digits_enough (suc f) (suc g) k h1 h2 = go (digits_enough f g (k / 10)) (ltb k 10) refl
   where
     go : (k / 10 < f → k / 10 < g → digits f (k / 10) ≡ digits g (k / 10)) → (b : Bool) → ltb k 10 ≡ b → digits (suc f) k ≡ digits (suc g) k
     go ih true e = simp e
@@ -27,26 +27,26 @@ pub decimal_digit : (k : ℕ) → k < 10 → decimal k ≡ (48 + k) ∷ []
 unfolding decimal digits
 decimal_digit k h = simp (lt-ltb k 10 h)
 
-pub decimal-push : (q d : ℕ) → 0 < q → d < 10 → decimal (q * 10 + d) ≡ decimal q ++ ((48 + d) ∷ [])
+pub decimal_push : (q d : ℕ) → 0 < q → d < 10 → decimal (q * 10 + d) ≡ decimal q ++ ((48 + d) ∷ [])
 unfolding decimal digits
-decimal-push q d hq hd =
+decimal_push q d hq hd =
     let e1 : (q * 10 + d) / 10 ≡ q = omega arith in
     let e2 : (q * 10 + d) % 10 ≡ d = omega arith in
     rw (le-ltb (q * 10 + d) 10 (omega arith), e1, e2)
-    (ap (λ (x : List ℕ). x ++ ((48 + d) ∷ [])) (digits-enough (q * 10 + d) (suc q) q (omega arith) (omega arith)))
+    (ap (λ (x : List ℕ). x ++ ((48 + d) ∷ [])) (digits_enough (q * 10 + d) (suc q) q (omega arith) (omega arith)))
 
-pub decimal-more : (k : ℕ) → 10 ≤ k → decimal k ≡ decimal (k / 10) ++ ((48 + k % 10) ∷ [])
-decimal-more k h =
+pub decimal_more : (k : ℕ) → 10 ≤ k → decimal k ≡ decimal (k / 10) ++ ((48 + k % 10) ∷ [])
+decimal_more k h =
     let s : k / 10 * 10 + k % 10 ≡ k = omega arith in
-    ap decimal (sym s) ∙ decimal-push (k / 10) (k % 10) (omega arith) (omega arith)
+    ap decimal (sym s) ∙ decimal_push (k / 10) (k % 10) (omega arith) (omega arith)
 
 -- ---- digits
 
-pub digit-true : (b : ℕ) → 48 ≤ b → b ≤ 57 → digit b ≡ true
-digit-true b h1 h2 = rw (le-leb 48 b h1) (le-leb b 57 h2)
+pub digit_true : (b : ℕ) → 48 ≤ b → b ≤ 57 → digit b ≡ true
+digit_true b h1 h2 = rw (le-leb 48 b h1) (le-leb b 57 h2)
 
-pub digit-told : (b : ℕ) → digit b ≡ true → (48 ≤ b) × (b ≤ 57)
-digit-told b e = go (leb 48 b) refl e
+pub digit_told : (b : ℕ) → digit b ≡ true → (48 ≤ b) × (b ≤ 57)
+digit_told b e = go (leb 48 b) refl e
   where
     go : (c : Bool) → leb 48 b ≡ c → c && leb b 57 ≡ true → (48 ≤ b) × (b ≤ 57)
     go true e1 e2 = (leb-true 48 b e1, leb-true b 57 e2)
@@ -54,73 +54,73 @@ digit-told b e = go (leb 48 b) refl e
 
 -- ---- reading what was written
 
-more-digit : (v d : ℕ) (t : List ℕ) → d < 10 → more v ((48 + d) ∷ t) ≡ more (v * 10 + d) t
+more_digit : (v d : ℕ) (t : List ℕ) → d < 10 → more v ((48 + d) ∷ t) ≡ more (v * 10 + d) t
 unfolding more
-more-digit v d t h =
+more_digit v d t h =
     let e : 48 + d - 48 ≡ d = omega arith in
-    rw (digit-true (48 + d) (omega arith) (omega arith), e)
+    rw (digit_true (48 + d) (omega arith) (omega arith), e)
 
-number-digit : (k : ℕ) (t : List ℕ) → 0 < k → k < 10 → number ((48 + k) ∷ t) ≡ more k t
+number_digit : (k : ℕ) (t : List ℕ) → 0 < k → k < 10 → number ((48 + k) ∷ t) ≡ more k t
 unfolding number
-number-digit k t h1 h2 =
+number_digit k t h1 h2 =
     let e : 48 + k - 48 ≡ k = omega arith in
-    rw (ne_eqb (48 + k) 48 (λ q. omega arith), digit-true (48 + k) (omega arith) (omega arith), e)
+    rw (ne_eqb (48 + k) 48 (λ q. omega arith), digit_true (48 + k) (omega arith) (omega arith), e)
 
 -- a text that begins with the digits of k
-number-begun : (f k : ℕ) (t : List ℕ) → k < f → 0 < k → number (decimal k ++ t) ≡ more k t
-number-begun zero k t h p = absurd (not-suc-le-zero h)
-number-begun (suc f) k t h p = go (number-begun f (k / 10) ((48 + k % 10) ∷ t)) (ltb k 10) refl
+number_begun : (f k : ℕ) (t : List ℕ) → k < f → 0 < k → number (decimal k ++ t) ≡ more k t
+number_begun zero k t h p = absurd (not-suc-le-zero h)
+number_begun (suc f) k t h p = go (number_begun f (k / 10) ((48 + k % 10) ∷ t)) (ltb k 10) refl
   where
     go : (k / 10 < f → 0 < k / 10 → number (decimal (k / 10) ++ ((48 + k % 10) ∷ t)) ≡ more (k / 10) ((48 + k % 10) ∷ t))
         → (b : Bool) → ltb k 10 ≡ b → number (decimal k ++ t) ≡ more k t
-    go ih true e = let l : k < 10 = ltb-true k 10 e in rw (decimal_digit k l) (number-digit k t p l)
+    go ih true e = let l : k < 10 = ltb-true k 10 e in rw (decimal_digit k l) (number_digit k t p l)
     go ih false e =
         let l : 10 ≤ k = ltb-false k 10 e in
         let s : k / 10 * 10 + k % 10 ≡ k = omega arith in
-        ap (λ (x : List ℕ). number (x ++ t)) (decimal-more k l)
+        ap (λ (x : List ℕ). number (x ++ t)) (decimal_more k l)
         ∙ ap number (append_assoc (decimal (k / 10)) ((48 + k % 10) ∷ []) t)
         ∙ ih (omega arith) (omega arith)
-        ∙ more-digit (k / 10) (k % 10) t (omega arith)
+        ∙ more_digit (k / 10) (k % 10) t (omega arith)
         ∙ ap (λ (j : ℕ). more j t) s
 
 -- the text of k before a byte that is no digit is read as k
-pub number-decimal : (k b : ℕ) (t : List ℕ) → digit b ≡ false → number (decimal k ++ (b ∷ t)) ≡ value k (b ∷ t)
+pub number_decimal : (k b : ℕ) (t : List ℕ) → digit b ≡ false → number (decimal k ++ (b ∷ t)) ≡ value k (b ∷ t)
 unfolding number more decimal digits
-number-decimal zero b t h = refl
-number-decimal (suc k) b t h = number-begun (suc (suc k)) (suc k) (b ∷ t) (omega arith) (omega arith) ∙ rw h
+number_decimal zero b t h = refl
+number_decimal (suc k) b t h = number_begun (suc (suc k)) (suc k) (b ∷ t) (omega arith) (omega arith) ∙ rw h
 
 -- ---- what is read was written
 
-more-text : (v w : ℕ) (t r : List ℕ) → 0 < v → more v t ≡ value w r → decimal v ++ t ≡ decimal w ++ r
+more_text : (v w : ℕ) (t r : List ℕ) → 0 < v → more v t ≡ value w r → decimal v ++ t ≡ decimal w ++ r
 unfolding more
-more-text v w [] r p e = cc
-more-text v w (b ∷ t) r p e = go (more-text (v * 10 + (b - 48)) w t r) (digit b) refl e
+more_text v w [] r p e = cc
+more_text v w (b ∷ t) r p e = go (more_text (v * 10 + (b - 48)) w t r) (digit b) refl e
   where
     go : (0 < v * 10 + (b - 48) → more (v * 10 + (b - 48)) t ≡ value w r → decimal (v * 10 + (b - 48)) ++ t ≡ decimal w ++ r)
         → (c : Bool) → digit b ≡ c → cond c (more (v * 10 + (b - 48)) t) (value v (b ∷ t)) ≡ value w r → decimal v ++ (b ∷ t) ≡ decimal w ++ r
     go ih true d q =
-        let l = digit-told b d in
+        let l = digit_told b d in
         let s : 48 + (b - 48) ≡ b = omega (arith, l.0) in
         ap (λ (j : ℕ). decimal v ++ (j ∷ t)) (sym s)
         ∙ sym (append_assoc (decimal v) ((48 + (b - 48)) ∷ []) t)
-        ∙ ap (λ (x : List ℕ). x ++ t) (sym (decimal-push v (b - 48) p (omega (arith, l.1))))
+        ∙ ap (λ (x : List ℕ). x ++ t) (sym (decimal_push v (b - 48) p (omega (arith, l.1))))
         ∙ ih (omega arith) q
     go ih false d q = cc
 
 -- a number that is read is written without leading zeros
-pub number-text : (w : ℕ) (t r : List ℕ) → number t ≡ value w r → t ≡ decimal w ++ r
+pub number_text : (w : ℕ) (t r : List ℕ) → number t ≡ value w r → t ≡ decimal w ++ r
 unfolding number decimal digits
-number-text w [] r e = let z : ◌≡◌ {A = ℕ} 0 1 = cc in absurd (omega arith)
-number-text w (b ∷ t) r e = go (eqb b 48) refl e
+number_text w [] r e = let z : ◌≡◌ {A = ℕ} 0 1 = cc in absurd (omega arith)
+number_text w (b ∷ t) r e = go (eqb b 48) refl e
   where
     long : eqb b 48 ≡ false → (c : Bool) → digit b ≡ c → cond c (more (b - 48) t) other ≡ value w r → b ∷ t ≡ decimal w ++ r
     long n true d q =
-        let l = digit-told b d in
+        let l = digit_told b d in
         let s : 48 + (b - 48) ≡ b = omega (arith, l.0) in
         let p : 0 < b - 48 = omega (arith, eqb-false b 48 n, l.0) in
         ap (λ (j : ℕ). j ∷ t) (sym s)
         ∙ ap (λ (x : List ℕ). x ++ t) (sym (decimal_digit (b - 48) (omega (arith, l.1))))
-        ∙ more-text (b - 48) w t r p q
+        ∙ more_text (b - 48) w t r p q
     long n false d q = let z : ◌≡◌ {A = ℕ} 0 1 = cc in absurd (omega arith)
 
     go : (c : Bool) → eqb b 48 ≡ c → cond c (value 0 t) (cond (digit b) (more (b - 48) t) other) ≡ value w r → b ∷ t ≡ decimal w ++ r

@@ -9,16 +9,16 @@ use Rattle.texts.specs.Layouts.{EntryLines, Layout}
 module _ {C A L : Type 0} where
   -- its lines are read as they are written, and only so; none is empty
   pub record ReadableEntries (E : EntryLines C A L) : Type 0 where
-    pub entry-reads : (p : A) (t : List ℕ) → E.entry (E.entry_text p ++ t) ≡ value p t
-    pub entry-text : (p : A) (t r : List ℕ) → E.entry t ≡ value p r → t ≡ E.entry_text p ++ r
-    pub entry-empty : (p : A) (t : List ℕ) → E.entry [] ≡ value p t → ⊥
+    pub entry_reads : (p : A) (t : List ℕ) → E.entry (E.entry_text p ++ t) ≡ value p t
+    pub entry_text_lem : (p : A) (t r : List ℕ) → E.entry t ≡ value p r → t ≡ E.entry_text p ++ r
+    pub entry_empty : (p : A) (t : List ℕ) → E.entry [] ≡ value p t → ⊥
 
   pub record Readable (Y : Layout C A L) : Type 0 where
-    pub counts-reads : (c : C) (t : List ℕ) → Y.counts (Y.counts_text c ++ t) ≡ value c t
-    pub counts-text : (c : C) (t r : List ℕ) → Y.counts t ≡ value c r → t ≡ Y.counts_text c ++ r
+    pub counts_reads : (c : C) (t : List ℕ) → Y.counts (Y.counts_text c ++ t) ≡ value c t
+    pub counts_text_lem : (c : C) (t r : List ℕ) → Y.counts t ≡ value c r → t ≡ Y.counts_text c ++ r
     pub entries : ReadableEntries Y.entries
 
   -- an entry that is not refused is one that fits, in whatever line
   pub record Judging (E : EntryLines C A L) (Fits : C → L → A → Type 0) : Type 0 where
-    pub fits-judged : (c : C) (low : L) (p : A) (l : ℕ) → Fits c low p → E.entry_judged c l low p ≡ Judgement.Admitted
-    pub judged-fits : (c : C) (low : L) (p : A) (l : ℕ) → E.entry_judged c l low p ≡ Judgement.Admitted → Fits c low p
+    pub fits_judged : (c : C) (low : L) (p : A) (l : ℕ) → Fits c low p → E.entry_judged c l low p ≡ Judgement.Admitted
+    pub judged_fits : (c : C) (low : L) (p : A) (l : ℕ) → E.entry_judged c l low p ≡ Judgement.Admitted → Fits c low p

@@ -6,60 +6,60 @@ use native.Mathlib.Omega.{arith}
 use lib.ListN.{drop}
 use Rattle.texts.specs.Numbers.{decimal, Front, other, value, number}
 use Rattle.texts.specs.Lines.{space, Pair, pair, line_text, and_then, field, line}
-use Rattle.texts.proofs.Known.{value-is}
-use Rattle.texts.proofs.Lines.{other-not, field-decimal, field-text, line_reads, line-text}
+use Rattle.texts.proofs.Known.{value_is}
+use Rattle.texts.proofs.Lines.{other_not, field_decimal, field_text, line_reads, line_text_lem}
 use Rattle.texts.specs.Places.{LineRead, Known, KnownLine, NumberRead}
 use Rattle.texts.specs.Triples.{Triple, triple, triple_text, triple_line, TripleRead, KnownTriple}
 
 -- a line with what follows it
-triple-then : (p : Triple) (t : List ℕ) → triple_text p ++ t ≡ decimal p.first ++ (space ∷ (line_text (pair p.second p.third) ++ t))
+triple_then : (p : Triple) (t : List ℕ) → triple_text p ++ t ≡ decimal p.first ++ (space ∷ (line_text (pair p.second p.third) ++ t))
 unfolding triple_text
-triple-then p t = simp append_assoc
+triple_then p t = simp append_assoc
 
-pub triple-reads : (p : Triple) (t : List ℕ) → triple_line (triple_text p ++ t) ≡ value p t
+pub triple_reads : (p : Triple) (t : List ℕ) → triple_line (triple_text p ++ t) ≡ value p t
 unfolding triple_line
-triple-reads p t =
+triple_reads p t =
     let q = pair p.second p.third in
-    rw (triple-then p t, field-decimal space p.first (line_text q ++ t) refl, line_reads q t)
+    rw (triple_then p t, field_decimal space p.first (line_text q ++ t) refl, line_reads q t)
 
-pub triple-text : (p : Triple) (t r : List ℕ) → triple_line t ≡ value p r → t ≡ triple_text p ++ r
+pub triple_text_lem : (p : Triple) (t r : List ℕ) → triple_line t ≡ value p r → t ≡ triple_text p ++ r
 unfolding triple_line
-triple-text p t r e = go (field space t) refl e
+triple_text_lem p t r e = go (field space t) refl e
   where
     both : (a : ℕ) (u : List ℕ) → field space t ≡ value a u → (s : Front Pair) → line u ≡ s
         → and_then s (λ q v. value (triple a q.first q.second) v) ≡ value p r → t ≡ triple_text p ++ r
-    both a u h other q k = absurd (other-not k)
+    both a u h other q k = absurd (other_not k)
     both a u h (value x v) q k =
         let ep : triple a x.first x.second ≡ p = cc in
         let er : v ≡ r = cc in
-        field-text space a t u h ∙ ap (λ (y : List ℕ). decimal a ++ (space ∷ y)) (line-text x u v q)
-        ∙ sym (triple-then (triple a x.first x.second) v) ∙ ap₂ (λ (y : Triple) (z : List ℕ). triple_text y ++ z) ep er
+        field_text space a t u h ∙ ap (λ (y : List ℕ). decimal a ++ (space ∷ y)) (line_text_lem x u v q)
+        ∙ sym (triple_then (triple a x.first x.second) v) ∙ ap₂ (λ (y : Triple) (z : List ℕ). triple_text y ++ z) ep er
 
     go : (s : Front ℕ) → field space t ≡ s → and_then s (λ a u. and_then (line u) (λ q v. value (triple a q.first q.second) v)) ≡ value p r
         → t ≡ triple_text p ++ r
-    go other h q = absurd (other-not q)
+    go other h q = absurd (other_not q)
     go (value a u) h q = both a u h (line u) refl q
 
 -- no line is empty
-pub triple-empty : (p : Triple) (t : List ℕ) → triple_line [] ≡ value p t → ⊥
+pub triple_empty : (p : Triple) (t : List ℕ) → triple_line [] ≡ value p t → ⊥
 unfolding triple_line field number
-triple-empty p t e = other-not e
+triple_empty p t e = other_not e
 
 -- ---- at a place
 
 module _ (t : List ℕ) where
-  pub triple-first : field space t ≡ other → triple_line t ≡ other
+  pub triple_first : field space t ≡ other → triple_line t ≡ other
   unfolding triple_line
-  triple-first e = rw e
+  triple_first e = rw e
 
   module _ {u : List ℕ} {a : ℕ} (e : field space t ≡ value a u) where
-    pub triple-rest : line u ≡ other → triple_line t ≡ other
+    pub triple_rest : line u ≡ other → triple_line t ≡ other
     unfolding triple_line
-    triple-rest f = rw (e, f)
+    triple_rest f = rw (e, f)
 
-    pub triple-both : {p : Pair} {r : List ℕ} → line u ≡ value p r → triple_line t ≡ value (triple a p.first p.second) r
+    pub triple_both : {p : Pair} {r : List ℕ} → line u ≡ value p r → triple_line t ≡ value (triple a p.first p.second) r
     unfolding triple_line
-    triple-both f = rw (e, f)
+    triple_both f = rw (e, f)
 
 -- ---- where one is known to stand
 
@@ -72,9 +72,9 @@ parts_are : (t : List ℕ) {p : Triple} {u : List ℕ} → triple_line t ≡ val
 parts_are t {p} {u} h = go (field space t) refl
   where
     both : (a : ℕ) (r : List ℕ) → field space t ≡ value a r → (f : Front Pair) → line r ≡ f → Parts t p u
-    both a r e other d = absurd (other-not (sym (triple-rest t e d) ∙ h))
+    both a r e other d = absurd (other_not (sym (triple_rest t e d) ∙ h))
     both a r e (value q w) d =
-        let z = value-is (sym (triple-both t e d) ∙ h) in
+        let z = value_is (sym (triple_both t e d) ∙ h) in
         record {
           between = r;
           first = e ∙ ap (λ (x : Triple). value x.first r) z.0;
@@ -82,15 +82,15 @@ parts_are t {p} {u} h = go (field space t) refl
         }
 
     go : (f : Front ℕ) → field space t ≡ f → Parts t p u
-    go other e = absurd (other-not (sym (triple-first t e) ∙ h))
+    go other e = absurd (other_not (sym (triple_first t e) ∙ h))
     go (value a r) e = both a r e (line r) refl
 
 -- the first number and the line after it, read
-pub triple-read : {s : List ℕ} {at a i b d next : ℕ} → NumberRead (field space (drop at s)) s at a i → LineRead (line (drop i s)) s i b d next
+pub triple_read : {s : List ℕ} {at a i b d next : ℕ} → NumberRead (field space (drop at s)) s at a i → LineRead (line (drop i s)) s i b d next
     → TripleRead (triple_line (drop at s)) s at a b d next
-triple-read {s} {at} r q = record {
+triple_read {s} {at} r q = record {
   numbers = triple r.number q.pair.first q.pair.second;
-  reads = triple-both (drop at s) r.reads q.reads;
+  reads = triple_both (drop at s) r.reads q.reads;
   first = r.capped;
   second = q.first;
   third = q.second;
@@ -99,18 +99,18 @@ triple-read {s} {at} r q = record {
 }
 
 module _ {s : List ℕ} {at : ℕ} (k : KnownTriple s at) where
-  pub known-number : Known (field space) s at
-  known-number =
+  pub known_number : Known (field space) s at
+  known_number =
       let f = parts_are (drop at s) k.reads in
       record { number = k.numbers.first; rest = f.between; reads = f.first; small = k.first }
 
-  pub known-pair : {a i : ℕ} → NumberRead (field space (drop at s)) s at a i → KnownLine s i
-  known-pair r =
+  pub known_pair : {a i : ℕ} → NumberRead (field space (drop at s)) s at a i → KnownLine s i
+  known_pair r =
       let f = parts_are (drop at s) k.reads in
       record {
         pair = pair k.numbers.second k.numbers.third;
         rest = k.rest;
-        reads = ap line (value-is (sym r.reads ∙ f.first)).1 ∙ f.rest;
+        reads = ap line (value_is (sym r.reads ∙ f.first)).1 ∙ f.rest;
         first = k.second;
         second = k.third;
       }

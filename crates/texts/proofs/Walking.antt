@@ -22,8 +22,8 @@ module _ {C A L : Type 0} (E : EntryLines C A L) (most : ℕ) (c : C) (ps : List
     pub total : left + k ≡ most
     pub same : walked_all ≡ walked E c left (k + 4) low done (drop k ps)
 
-  pub walking-none : Walking 0 E.low
-  walking-none = record { left = most; done = []; total = omega arith; same = refl }
+  pub walking_none : Walking 0 E.low
+  walking_none = record { left = most; done = []; total = omega arith; same = refl }
 
 module _ {C A L : Type 0} (E : EntryLines C A L) (c : C) (l : ℕ) (low : L) (done : List A) where
   none_left : (j : ℕ) → walked E c j l low done [] ≡ lines c done
@@ -37,22 +37,22 @@ module _ {C A L : Type 0} (E : EntryLines C A L) (c : C) (l : ℕ) (low : L) (do
     too_many zero e = refl
     too_many (suc j) e = absurd (omega arith)
 
-    bad-entry : (j : ℕ) (r : Refusal) → 0 < j → E.entry_judged c l low p ≡ Judgement.Refused r → walked E c j l low done (p ∷ ps) ≡ refused r
+    bad_entry : (j : ℕ) (r : Refusal) → 0 < j → E.entry_judged c l low p ≡ Judgement.Refused r → walked E c j l low done (p ∷ ps) ≡ refused r
     unfolding walked
-    bad-entry zero r u q = absurd (not-suc-le-zero u)
-    bad-entry (suc j) r u q = rw q
+    bad_entry zero r u q = absurd (not-suc-le-zero u)
+    bad_entry (suc j) r u q = rw q
 
-    good-entry : (j : ℕ) → E.entry_judged c l low p ≡ Judgement.Admitted
+    good_entry : (j : ℕ) → E.entry_judged c l low p ≡ Judgement.Admitted
         → walked E c (suc j) l low done (p ∷ ps) ≡ walked E c j (suc l) (E.after p) (done ++ (p ∷ [])) ps
     unfolding walked
-    good-entry j q = rw q
+    good_entry j q = rw q
 
 module _ {C A L : Type 0} {E : EntryLines C A L} {most : ℕ} {c : C} {ps : List A} {k : ℕ} {low : L} (q : Walking E most c ps k low) where
   abbrev answer : Lines C A
   answer = walked_all E most c ps
 
-  pub walking-end : length ps ≤ k → answer ≡ lines c q.done
-  walking-end h = q.same ∙ ap (walked E c q.left (k + 4) low q.done) (drop_of_length-le ps h) ∙ none_left E c (k + 4) low q.done q.left
+  pub walking_end : length ps ≤ k → answer ≡ lines c q.done
+  walking_end h = q.same ∙ ap (walked E c q.left (k + 4) low q.done) (drop_of_length-le ps h) ∙ none_left E c (k + 4) low q.done q.left
 
   -- where entry k is p
   module _ {p : A} (e : drop k ps ≡ p ∷ drop (k + 1) ps) where
@@ -63,11 +63,11 @@ module _ {C A L : Type 0} {E : EntryLines C A L} {most : ℕ} {c : C} {ps : List
     walking_many u = here ∙ too_many E c (k + 4) low q.done p (drop (k + 1) ps) q.left (omega (arith, q.total))
 
     module _ (u : k < most) where
-      pub walking-refused : {r : Refusal} → E.entry_judged c (k + 4) low p ≡ Judgement.Refused r → answer ≡ refused r
-      walking-refused {r} j = here ∙ bad-entry E c (k + 4) low q.done p (drop (k + 1) ps) q.left r (omega (arith, q.total)) j
+      pub walking_refused : {r : Refusal} → E.entry_judged c (k + 4) low p ≡ Judgement.Refused r → answer ≡ refused r
+      walking_refused {r} j = here ∙ bad_entry E c (k + 4) low q.done p (drop (k + 1) ps) q.left r (omega (arith, q.total)) j
 
-      pub walking-more : E.entry_judged c (k + 4) low p ≡ Judgement.Admitted → Walking E most c ps (k + 1) (E.after p)
-      walking-more j = go q.left q.total here
+      pub walking_more : E.entry_judged c (k + 4) low p ≡ Judgement.Admitted → Walking E most c ps (k + 1) (E.after p)
+      walking_more j = go q.left q.total here
         where
           go : (left : ℕ) → left + k ≡ most → answer ≡ walked E c left (k + 4) low q.done (p ∷ drop (k + 1) ps) → Walking E most c ps (k + 1) (E.after p)
           go zero t a = absurd (omega arith)
@@ -76,6 +76,6 @@ module _ {C A L : Type 0} {E : EntryLines C A L} {most : ℕ} {c : C} {ps : List
             done = q.done ++ (p ∷ []);
             total = omega arith;
             same =
-                a ∙ good-entry E c (k + 4) low q.done p (drop (k + 1) ps) left j
+                a ∙ good_entry E c (k + 4) low q.done p (drop (k + 1) ps) left j
                 ∙ ap (λ (l : ℕ). walked E c left l (E.after p) (q.done ++ (p ∷ [])) (drop (k + 1) ps)) (omega arith);
           }

@@ -15,7 +15,7 @@ use mir.Val.{to_z, of_z, Fits, SFits}
 use mir.ValLaws.{to_z_pos, to_z-of_z, to_z-Fits, of_z_fits, of_z-to_z}
 use Rattle.words.specs.Words.{word, stored}
 use Rattle.words.specs.Roles.{sum_at, sum_table}
-use Rattle.words.proofs.Words.{word_bound, table-ext, at_table, put-table, table-self}
+use Rattle.words.proofs.Words.{word_bound, table_ext, at_table, put_table, table_self}
 
 widens : (z : ℤ) → SFits w32 z → SFits w64 z
 widens z f = record { sfits = omega (arith, f.sfits) }
@@ -25,8 +25,8 @@ abbrev shifted : ℕ → ℤ
 shifted u = to_z w64 ((u + 2147483648) % 4294967296) -ℤ pos 2147483648
 
 module _ (u : ℕ) (h : u < 2 ^ 32) where
-  shifted-is : shifted u ≡ to_z w32 u
-  shifted-is = rw (to_z_pos w64 ((u + 2147483648) % 4294967296) (omega arith)) (go (dec_lt u (2 ^ 31)))
+  shifted_is : shifted u ≡ to_z w32 u
+  shifted_is = rw (to_z_pos w64 ((u + 2147483648) % 4294967296) (omega arith)) (go (dec_lt u (2 ^ 31)))
     where
       go : Dec (u < 2 ^ 31) → pos ((u + 2147483648) % 4294967296) -ℤ pos 2147483648 ≡ to_z w32 u
       go (yes l) = rw (le-ltb ((u + 2147483648) % 4294967296) 2147483648 (omega arith), to_z_pos w32 u l) (ap pos (omega arith))
@@ -36,13 +36,13 @@ module _ (u : ℕ) (h : u < 2 ^ 32) where
   fits = to_z-Fits w32 u (record { fits = h })
 
   pub shifted_fits : SFits w64 (shifted u)
-  shifted_fits = rw shifted-is (widens (to_z w32 u) fits)
+  shifted_fits = rw shifted_is (widens (to_z w32 u) fits)
 
   held : to_z w64 (of_z w64 (shifted u)) ≡ to_z w32 u
-  held = to_z-of_z w64 (shifted u) shifted_fits ∙ shifted-is
+  held = to_z-of_z w64 (shifted u) shifted_fits ∙ shifted_is
 
-  pub signed-fits : SFits w32 (to_z w64 (of_z w64 (shifted u)))
-  signed-fits = rw held fits
+  pub signed_fits : SFits w32 (to_z w64 (of_z w64 (shifted u)))
+  signed_fits = rw held fits
 
   pub signed_is : to_z w32 (of_z w32 (to_z w64 (of_z w64 (shifted u)))) ≡ to_z w32 u
   signed_is = rw held (to_z-of_z w32 (to_z w32 u) fits)
@@ -73,14 +73,14 @@ module _ (z : ℤ) (f : SFits w32 z) where
       go (pos n) g = omega (arith, g.sfits)
       go (negsuc n) g = omega arith
 
-  pub raised-fits : SFits w64 (raised z)
-  raised-fits = rw raised_is (record { sfits = omega (arith, low) })
+  pub raised_fits : SFits w64 (raised z)
+  raised_fits = rw raised_is (record { sfits = omega (arith, low) })
 
   kept : to_z w64 (of_z w64 (raised z)) ≡ pos (height z)
-  kept = to_z-of_z w64 (raised z) raised-fits ∙ raised_is
+  kept = to_z-of_z w64 (raised z) raised_fits ∙ raised_is
 
-  pub raised-natural : T (non_neg (to_z w64 (of_z w64 (raised z)))) × Fits w64 (nat_abs (to_z w64 (of_z w64 (raised z))))
-  raised-natural = rw kept (tt, record { fits = omega (arith, low) })
+  pub raised_natural : T (non_neg (to_z w64 (of_z w64 (raised z)))) × Fits w64 (nat_abs (to_z w64 (of_z w64 (raised z))))
+  raised_natural = rw kept (tt, record { fits = omega (arith, low) })
 
   pub bits_are : nat_abs (to_z w64 (of_z w64 (raised z))) % 4294967296 ≡ of_z w32 z
   bits_are = rw kept (go z f)
@@ -91,17 +91,17 @@ module _ (z : ℤ) (f : SFits w32 z) where
 
 -- ---- tables of sums
 
-pub sum-at-table : (g : ℕ → ℤ) (n : ℕ) (t : List ℕ) (v : ℕ) → v < n → SFits w32 (g v) → sum_at (sum_table g n ++ t) v ≡ g v
-sum-at-table g n t v l f = ap (to_z w32) (at_table 4 (λ k. of_z w32 (g k)) n t v l (of_z_fits w32 (g v) f).fits) ∙ to_z-of_z w32 (g v) f
+pub sum_at_table : (g : ℕ → ℤ) (n : ℕ) (t : List ℕ) (v : ℕ) → v < n → SFits w32 (g v) → sum_at (sum_table g n ++ t) v ≡ g v
+sum_at_table g n t v l f = ap (to_z w32) (at_table 4 (λ k. of_z w32 (g k)) n t v l (of_z_fits w32 (g v) f).fits) ∙ to_z-of_z w32 (g v) f
 
-pub sum-put-table : (g h : ℕ → ℤ) (n : ℕ) (t : List ℕ) (v : ℕ) (x : ℤ) → v < n → h v ≡ x → ((j : ℕ) → j < n → j ≢ v → h j ≡ g j)
+pub sum_put_table : (g h : ℕ → ℤ) (n : ℕ) (t : List ℕ) (v : ℕ) (x : ℤ) → v < n → h v ≡ x → ((j : ℕ) → j < n → j ≢ v → h j ≡ g j)
     → stored 4 (sum_table g n ++ t) (4 * v) (of_z w32 x) ≡ sum_table h n ++ t
-sum-put-table g h n t v x l s o =
-    put-table 4 (λ k. of_z w32 (g k)) (λ k. of_z w32 (h k)) n t v (of_z w32 x) l (ap (of_z w32) s) (λ j u d. ap (of_z w32) (o j u d))
+sum_put_table g h n t v x l s o =
+    put_table 4 (λ k. of_z w32 (g k)) (λ k. of_z w32 (h k)) n t v (of_z w32 x) l (ap (of_z w32) s) (λ j u d. ap (of_z w32) (o j u d))
 
 -- a list of sums as the table of its own numbers
 pub sum_self : (b : List ℕ) (n : ℕ) → 4 * n ≤ length b → ((j : ℕ) → get_or b j 0 < 256) → sum_table (sum_at b) n ≡ take (4 * n) b
 sum_self b n l h =
-    table-ext 4 (λ v. of_z w32 (sum_at b v)) (λ v. word 4 b (4 * v)) n
+    table_ext 4 (λ v. of_z w32 (sum_at b v)) (λ v. word 4 b (4 * v)) n
     (λ v u. of_z-to_z w32 (word 4 b (4 * v)) (record { fits = word_bound 4 b (4 * v) (λ j _ _. h j) }))
-    ∙ table-self 4 b n l h
+    ∙ table_self 4 b n l h

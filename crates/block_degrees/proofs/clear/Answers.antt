@@ -1,25 +1,25 @@
 use Prim.Native.Nat.{◌-◌}
 use native.Mathlib.Omega.{arith}
-use Rattle.block_degrees.proofs.Heads.{clearing-none, clearing-long, clearing-room, clearing-more, clearing-all}
+use Rattle.block_degrees.proofs.Heads.{clearing_none, clearing_long, clearing_room, clearing_more, clearing_all}
 use Rattle.block_degrees.proofs.clear.Goals as goal
 
 pub loop-j-init : goal.loop-j-init
-loop-j-init c = clearing-none c.args.columns c.args.size c.args.degrees.now
+loop-j-init c = clearing_none c.args.columns c.args.size c.args.degrees.now
 
 pub put_degree-requires : goal.put_degree-requires
-put_degree-requires c = omega (arith, clearing-room c.loop-j.invariant (omega arith), clearing-long c.loop-j.invariant, c.requires.0, c.requires.1)
+put_degree-requires c = omega (arith, clearing_room c.loop-j.invariant (omega arith), clearing_long c.loop-j.invariant, c.requires.0, c.requires.1)
 
 pub overflow_add-v : goal.overflow_add-v
-overflow_add-v c = omega (arith, clearing-room c.loop-j.invariant (omega arith), c.requires.0, c.requires.1)
+overflow_add-v c = omega (arith, clearing_room c.loop-j.invariant (omega arith), c.requires.0, c.requires.1)
 
 pub overflow_add-j : goal.overflow_add-j
-overflow_add-j c = omega (arith, clearing-room c.loop-j.invariant (omega arith), c.requires.0, c.requires.1)
+overflow_add-j c = omega (arith, clearing_room c.loop-j.invariant (omega arith), c.requires.0, c.requires.1)
 
 pub loop-j-preserved : goal.loop-j-preserved
-loop-j-preserved c = clearing-more c.loop-j.invariant (omega arith) c.put_degree.ensures
+loop-j-preserved c = clearing_more c.loop-j.invariant (omega arith) c.put_degree.ensures
 
 pub shape_of-degrees : goal.shape_of-degrees
-shape_of-degrees c = clearing-long c.loop-j.invariant
+shape_of-degrees c = clearing_long c.loop-j.invariant
 
 pub returns : goal.returns
-returns c = clearing-all c.loop-j.invariant (omega arith)
+returns c = clearing_all c.loop-j.invariant (omega arith)

@@ -2,7 +2,7 @@ use mathlib.Core.Path.{refl}
 use Prim.Native.Nat.{◌+◌, ◌-◌}
 use native.Mathlib.Nat.{add-mul, mul-le-mul_right}
 use native.Mathlib.Omega.{arith}
-use Rattle.block_rows.proofs.Putting.{entry-puts}
+use Rattle.block_rows.proofs.Putting.{entry_puts}
 use Rattle.block_rows.proofs.put_entry.Goals as goal
 
 pub overflow_add-base : goal.overflow_add-base
@@ -21,4 +21,4 @@ pub put_along-requires-2 : goal.put_along-requires-2
 put_along-requires-2 c = (c.requires.0, omega (arith, c.requires.2), λ r l. omega (arith, c.columns-1.given, add-mul (c.args.size - c.args.shift) r c.args.d, c.requires.4 (c.args.size - c.args.shift + r) (omega arith)))
 
 pub returns : goal.returns
-returns c = entry-puts c.args.e c.args.d c.args.base c.args.shift c.args.size (c.args.size - c.args.shift) c.requires.0 c.requires.1 refl c.put_along.ensures c.put_along-2.ensures
+returns c = entry_puts c.args.e c.args.d c.args.base c.args.shift c.args.size (c.args.size - c.args.shift) c.requires.0 c.requires.1 refl c.put_along.ensures c.put_along-2.ensures

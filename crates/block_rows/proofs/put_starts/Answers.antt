@@ -4,7 +4,7 @@ use native.Mathlib.Nat.{add-zero, add_assoc, mul-le-mul_right}
 use native.Mathlib.Omega.{arith}
 use lib.ListN.{length}
 use Rattle.words.specs.Roles.{wide}
-use Rattle.words.proofs.Words.{length-stored}
+use Rattle.words.proofs.Words.{length_stored}
 use Rattle.words.proofs.Filling.{Filled, filled_more}
 use Rattle.block_rows.proofs.put_starts.Goals as goal
 
@@ -24,7 +24,7 @@ pub put_start-requires : goal.put_start-requires
 put_start-requires c = (omega (arith, c.requires.1, c.loop-r.invariant.1), omega (arith, c.requires.0, mul-le-mul_right {m = c.loop-r.r} {n = c.args.size} c.args.d (omega arith)))
 
 pub loop-r-preserved : goal.loop-r-preserved
-loop-r-preserved c = (omega arith, ap length c.put_start.ensures ∙ length-stored wide _ _ _ ∙ c.loop-r.invariant.1, λ f old h g. subst (Filled wide f old c.put_start.new.starts) (add_assoc c.args.c c.loop-r.r 1) (filled_more (omega (arith, h.long, c.requires.1)) (c.loop-r.invariant.2 f old h g) c.put_start.ensures (g c.loop-r.r (omega arith))))
+loop-r-preserved c = (omega arith, ap length c.put_start.ensures ∙ length_stored wide _ _ _ ∙ c.loop-r.invariant.1, λ f old h g. subst (Filled wide f old c.put_start.new.starts) (add_assoc c.args.c c.loop-r.r 1) (filled_more (omega (arith, h.long, c.requires.1)) (c.loop-r.invariant.2 f old h g) c.put_start.ensures (g c.loop-r.r (omega arith))))
 
 pub shape_of-starts : goal.shape_of-starts
 shape_of-starts c = c.loop-r.invariant.1

@@ -1,11 +1,11 @@
 use mathlib.Core.Path.{refl}
 use native.Mathlib.Omega.{arith}
 use Rattle.block_sheets.specs.Reader.Storing.{blocks_from}
-use Rattle.block_sheet.proofs.Ways.{judgeable, entries-small, degrees-short, degrees-refused, starts-short, columns-short, long-enough}
+use Rattle.block_sheet.proofs.Ways.{judgeable, entries_small, degrees_short, degrees_refused, starts_short, columns_short, long_enough_lem}
 use Rattle.block_sheet.proofs.judge_blocks.Goals as goal
 
 pub returns-then-degrees-counts : goal.returns-then-degrees-counts
-returns-then-degrees-counts c = degrees-short c.requires (omega arith)
+returns-then-degrees-counts c = degrees_short c.requires (omega arith)
 
 pub count_lines-rows-requires : goal.count_lines-rows-requires
 count_lines-rows-requires c = (c.requires, judgeable c.requires (omega arith))
@@ -14,16 +14,16 @@ pub judge-j-requires : goal.judge-j-requires
 judge-j-requires c = judgeable c.requires (omega (arith, c.degrees-1.given))
 
 pub returns-in-Refused : goal.returns-in-Refused
-returns-in-Refused c = let q = c.judge-j.ensures (blocks_from c.args.text.now c.args.counts c.args.at) c.args.degrees.now c.requires.valid refl c.count_lines-rows.ensures in degrees-refused c.requires (omega arith) q c.in-Refused.is
+returns-in-Refused c = let q = c.judge-j.ensures (blocks_from c.args.text.now c.args.counts c.args.at) c.args.degrees.now c.requires.valid refl c.count_lines-rows.ensures in degrees_refused c.requires (omega arith) q c.in-Refused.is
 
 pub returns-then-starts-counts : goal.returns-then-starts-counts
-returns-then-starts-counts c = let q = c.judge-j.ensures (blocks_from c.args.text.now c.args.counts c.args.at) c.args.degrees.now c.requires.valid refl c.count_lines-rows.ensures in starts-short c.requires (omega arith) q c.in_default.is (omega arith)
+returns-then-starts-counts c = let q = c.judge-j.ensures (blocks_from c.args.text.now c.args.counts c.args.at) c.args.degrees.now c.requires.valid refl c.count_lines-rows.ensures in starts_short c.requires (omega arith) q c.in_default.is (omega arith)
 
 pub overflow_mul-counts-3 : goal.overflow_mul-counts-3
-overflow_mul-counts-3 c = record { fits = omega (arith, entries-small c.requires) }
+overflow_mul-counts-3 c = record { fits = omega (arith, entries_small c.requires) }
 
 pub returns-then-columns-counts : goal.returns-then-columns-counts
-returns-then-columns-counts c = let q = c.judge-j.ensures (blocks_from c.args.text.now c.args.counts c.args.at) c.args.degrees.now c.requires.valid refl c.count_lines-rows.ensures in columns-short c.requires (omega arith) q c.in_default.is (omega arith)
+returns-then-columns-counts c = let q = c.judge-j.ensures (blocks_from c.args.text.now c.args.counts c.args.at) c.args.degrees.now c.requires.valid refl c.count_lines-rows.ensures in columns_short c.requires (omega arith) q c.in_default.is (omega arith)
 
 pub returns : goal.returns
-returns c = let q = c.judge-j.ensures (blocks_from c.args.text.now c.args.counts c.args.at) c.args.degrees.now c.requires.valid refl c.count_lines-rows.ensures in long-enough c.requires (omega arith) q c.in_default.is (omega arith) (omega arith)
+returns c = let q = c.judge-j.ensures (blocks_from c.args.text.now c.args.counts c.args.at) c.args.degrees.now c.requires.valid refl c.count_lines-rows.ensures in long_enough_lem c.requires (omega arith) q c.in_default.is (omega arith) (omega arith)

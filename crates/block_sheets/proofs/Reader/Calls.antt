@@ -26,19 +26,19 @@ use Rattle.block_sheets.proofs.Reader.Entries.{lines_are}
 -- ---- the lines are refused
 
 module _ {t : List ℕ} {r : Refusal} (e : block_lines t ≡ refused r) where
-  pub lines-refused : {d s c : List ℕ} → BlocksReadInto t (Answer.Refused r) d d s s c c
+  pub lines_refused : {d s c : List ℕ} → BlocksReadInto t (Answer.Refused r) d d s s c c
   unfolding block_read_in
-  lines-refused = record { read = rw e (record { answer = refl; starts = refl; columns = refl }); degrees = rw e }
+  lines_refused = record { read = rw e (record { answer = refl; starts = refl; columns = refl }); degrees = rw e }
 
-  pub lines-judged : {d : List ℕ} {s c : ℕ} → BlocksJudgedInto t (Judgement.Refused r) d d s c
+  pub lines_judged_lem : {d : List ℕ} {s c : ℕ} → BlocksJudgedInto t (Judgement.Refused r) d d s c
   unfolding block_read_in
-  lines-judged = record { judged = rw e; degrees = rw e }
+  lines_judged_lem = record { judged = rw e; degrees = rw e }
 
 -- ---- the lines are not refused
 
-pub judged-back : (j : Judged) (G : Graph) → read_judged (unless_refused j G) ≡ j
-judged-back Judgement.Admitted G = refl
-judged-back (Judgement.Refused r) G = refl
+pub judged_back : (j : Judged) (G : Graph) → read_judged (unless_refused j G) ≡ j
+judged_back Judgement.Admitted G = refl
+judged_back (Judgement.Refused r) G = refl
 
 module _ {t : List ℕ} {k : Counts} {at : ℕ} (h : LinesAt block_entries (room_of k.size) t (block_lines t) (counts_in k) k.entries at) where
   abbrev G : Graph
@@ -48,17 +48,17 @@ module _ {t : List ℕ} {k : Counts} {at : ℕ} (h : LinesAt block_entries (room
   unfolding block_read_in
   reading d s c = ap (read_blocks (λ G. after_lines_in limits G d s c)) (lines_are h)
 
-  degrees-same : (d : List ℕ) → block_degrees_of (block_lines t) d ≡ degrees_in G d
-  degrees-same d = ap (λ (x : Lines Triple Triple). block_degrees_of x d) (lines_are h)
+  degrees_same : (d : List ℕ) → block_degrees_of (block_lines t) d ≡ degrees_in G d
+  degrees_same d = ap (λ (x : Lines Triple Triple). block_degrees_of x d) (lines_are h)
 
-  pub read-into : {r : Sheet} {d d' s s' c c' : List ℕ} → Finished G r d d' s s' c c' → BlocksReadInto t r d d' s s' c c'
-  read-into {r} {d} {d'} {s} {s'} {c} {c'} f = record {
+  pub read_into : {r : Sheet} {d d' s s' c c' : List ℕ} → Finished G r d d' s s' c c' → BlocksReadInto t r d d' s s' c c'
+  read_into {r} {d} {d'} {s} {s'} {c} {c'} f = record {
     read = subst (λ (x : Reading). ReadAs x r s s' c c') (sym (reading (length d) (length s) (length c))) f.read;
-    degrees = f.degrees ∙ sym (degrees-same d);
+    degrees = f.degrees ∙ sym (degrees_same d);
   }
 
-  pub judged-into : {r : Judged} {d d' : List ℕ} {s c : ℕ} → AfterLines G r d d' s c → BlocksJudgedInto t r d d' s c
-  judged-into {d = d} {s = s} {c = c} f = record {
-    judged = f.judged ∙ sym (ap read_judged (reading (length d) s c) ∙ judged-back (after_lines_in limits G (length d) s c) G);
-    degrees = f.degrees ∙ sym (degrees-same d);
+  pub judged_into : {r : Judged} {d d' : List ℕ} {s c : ℕ} → AfterLines G r d d' s c → BlocksJudgedInto t r d d' s c
+  judged_into {d = d} {s = s} {c = c} f = record {
+    judged = f.judged ∙ sym (ap read_judged (reading (length d) s c) ∙ judged_back (after_lines_in limits G (length d) s c) G);
+    degrees = f.degrees ∙ sym (degrees_same d);
   }

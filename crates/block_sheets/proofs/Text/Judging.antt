@@ -12,14 +12,14 @@ use Rattle.refusals.specs.Refusals.{unless, or_else}
 use Rattle.refusals.specs.declared.Refusal.TheVariants.{Count, Range, Order, Shift}
 use Rattle.refusals.specs.declared.Judged.{Judged}
 use Rattle.refusals.specs.declared.Judged.TheVariants.{Admitted}
-use Rattle.refusals.proofs.Judging.{or_else-left, or_else-right, or_else-both, unless-true}
+use Rattle.refusals.proofs.Judging.{or_else_left, or_else_right, or_else_both, unless_true}
 use Rattle.rules.proofs.Tests.{and_no}
 use Rattle.texts.specs.Lines.{Pair, pair}
 use Rattle.texts.specs.Places.{cap}
 use Rattle.code_sheets.specs.Text.Reading.{counts_fit, not_before, after}
 use Rattle.code_sheets.proofs.Text.Order as Sheet
-use Rattle.code_sheets.proofs.Text.Sheets.{counts-told, counts-fit}
-use Rattle.code_sheets.proofs.Text.Passes.{capped-counts}
+use Rattle.code_sheets.proofs.Text.Sheets.{counts_told, counts_fit_lem}
+use Rattle.code_sheets.proofs.Text.Passes.{capped_counts}
 use Rattle.texts.specs.Triples.{Triple, triple}
 use Rattle.block_sheets.specs.Text.Blocks.{place}
 use Rattle.block_sheets.specs.Text.Reading.{expanded, size_judged, block_judged}
@@ -37,18 +37,18 @@ module _ (c : Triple) (low : Pair) (p : Triple) (l : ℕ) where
   abbrev order : Judged
   order = unless (not_before low (place p)) (Order l)
 
-  pub fits-judged : BlockFits c low p → block_judged c l low p ≡ Admitted
-  fits-judged f =
-      let h = Sheet.fits-judged (pair c.third c.second) low (place p) l f.place-fits in
-      or_else-both (or_else-left range order h) (or_else-both (ap (λ (b : Bool). unless b (Shift l)) (lt-ltb p.third c.first f.shift)) (or_else-right range order h))
+  pub fits_judged : BlockFits c low p → block_judged c l low p ≡ Admitted
+  fits_judged f =
+      let h = Sheet.fits_judged (pair c.third c.second) low (place p) l f.place_fits in
+      or_else_both (or_else_left range order h) (or_else_both (ap (λ (b : Bool). unless b (Shift l)) (lt-ltb p.third c.first f.shift)) (or_else_right range order h))
 
-  pub judged-fits : block_judged c l low p ≡ Admitted → BlockFits c low p
-  judged-fits h =
-      let rest = or_else-right range (or_else shift order) h in
+  pub judged_fits : block_judged c l low p ≡ Admitted → BlockFits c low p
+  judged_fits h =
+      let rest = or_else_right range (or_else shift order) h in
       record {
-        place-fits =
-            Sheet.judged-fits (pair c.third c.second) low (place p) l (or_else-both (or_else-left range (or_else shift order) h) (or_else-right shift order rest));
-        shift = ltb-true p.third c.first (unless-true (ltb p.third c.first) (Shift l) (or_else-left shift order rest));
+        place_fits =
+            Sheet.judged_fits (pair c.third c.second) low (place p) l (or_else_both (or_else_left range (or_else shift order) h) (or_else_right shift order rest));
+        shift = ltb-true p.third c.first (unless_true (ltb p.third c.first) (Shift l) (or_else_left shift order rest));
       }
 
 -- ---- line 2
@@ -58,21 +58,21 @@ abbrev pub Within : Pair → Type 0
 Within c = ((fewest_variables ≤ c.first) × (c.first ≤ limits.variables)) × ((fewest_checks ≤ c.second) × (c.second ≤ limits.checks))
 
 module _ (c : Triple) where
-  pub within-judged : 0 < c.first → Within (expanded c) → size_judged c ≡ Admitted
-  within-judged z w = rw (lt-ltb 0 c.first z, counts-fit limits (expanded c) w.0 w.1)
+  pub within_judged_lem : 0 < c.first → Within (expanded c) → size_judged c ≡ Admitted
+  within_judged_lem z w = rw (lt-ltb 0 c.first z, counts_fit_lem limits (expanded c) w.0 w.1)
 
-  pub judged-within : size_judged c ≡ Admitted → (0 < c.first) × Within (expanded c)
-  judged-within h =
+  pub judged_within : size_judged c ≡ Admitted → (0 < c.first) × Within (expanded c)
+  judged_within h =
       let zero = unless (ltb 0 c.first) (Shift 2) in
       let counts = unless (counts_fit limits (expanded c)) (Count 2) in (
-        ltb-true 0 c.first (unless-true (ltb 0 c.first) (Shift 2) (or_else-left zero counts h)),
-        counts-told limits (expanded c) (or_else-right zero counts h),
+        ltb-true 0 c.first (unless_true (ltb 0 c.first) (Shift 2) (or_else_left zero counts h)),
+        counts_told limits (expanded c) (or_else_right zero counts h),
       )
 
 -- ---- numbers kept up to the cap
 
-capped-product : (x y : ℕ) → min (min x cap * min y cap) cap ≡ min (x * y) cap
-capped-product x y = go x y (dec_lt x cap) (dec_lt y cap)
+capped_product : (x y : ℕ) → min (min x cap * min y cap) cap ≡ min (x * y) cap
+capped_product x y = go x y (dec_lt x cap) (dec_lt y cap)
   where
     big : (x y : ℕ) → cap ≤ x → (min (min x cap * min y cap) cap ≡ min (x * y) cap) × (min (min y cap * min x cap) cap ≡ min (y * x) cap)
     big x zero h = (rw (mul-zero (min x cap), mul-zero x), rw (zero-mul (min x cap), zero-mul x))
@@ -87,11 +87,11 @@ capped-product x y = go x y (dec_lt x cap) (dec_lt y cap)
     go x y (yes a) (no b) = (big y x (omega arith)).1
 
 within_cap : (p : Pair) (a b : ℕ) → a ≡ min p.first cap → b ≡ min p.second cap → counts_fit limits (pair a b) ≡ counts_fit limits p
-within_cap = capped-counts limits (omega arith) (omega arith)
+within_cap = capped_counts limits (omega arith) (omega arith)
 
-pub capped-size : (c : Triple) (a b d : ℕ) → a ≡ min c.first cap → b ≡ min c.second cap → d ≡ min c.third cap
+pub capped_size : (c : Triple) (a b d : ℕ) → a ≡ min c.first cap → b ≡ min c.second cap → d ≡ min c.third cap
     → size_judged (triple a b d) ≡ size_judged c
-capped-size c a b d ea eb ed =
+capped_size c a b d ea eb ed =
     ap₂ (λ (x y : Bool). or_else (unless x (Shift 2)) (unless y (Count 2))) (some (dec_lt 0 c.first))
     (sym (within_cap (pair (d * a) (b * a)) n m (sym (same c.third d ed)) (sym (same c.second b eb)))
     ∙ within_cap (expanded c) n m refl refl)
@@ -103,15 +103,15 @@ capped-size c a b d ea eb ed =
     m = min (c.second * c.first) cap
 
     same : (x e : ℕ) → e ≡ min x cap → min (e * a) cap ≡ min (x * c.first) cap
-    same x e q = ap₂ (λ (y z : ℕ). min (y * z) cap) q ea ∙ capped-product x c.first
+    same x e q = ap₂ (λ (y z : ℕ). min (y * z) cap) q ea ∙ capped_product x c.first
 
     some : Dec (0 < c.first) → ltb 0 a ≡ ltb 0 c.first
     some (yes l) = rw (lt-ltb 0 a (omega arith), lt-ltb 0 c.first l)
     some (no l) = rw (le-ltb 0 a (omega arith), le-ltb 0 c.first (omega arith))
 
-pub capped-block : (c : Triple) (low : Pair) (l : ℕ) (p : Triple) (a b d : ℕ) → c.first ≤ cap → c.second ≤ cap → c.third ≤ cap
+pub capped_block : (c : Triple) (low : Pair) (l : ℕ) (p : Triple) (a b d : ℕ) → c.first ≤ cap → c.second ≤ cap → c.third ≤ cap
     → a ≡ min p.first cap → b ≡ min p.second cap → d ≡ min p.third cap → block_judged c l low (triple a b d) ≡ block_judged c l low p
-capped-block c low l p a b d hz hm hn ea eb ed = go (dec_lt p.first cap) (dec_lt p.second cap) (dec_lt p.third cap)
+capped_block c low l p a b d hz hm hn ea eb ed = go (dec_lt p.first cap) (dec_lt p.second cap) (dec_lt p.third cap)
   where
     go : Dec (p.first < cap) → Dec (p.second < cap) → Dec (p.third < cap) → block_judged c l low (triple a b d) ≡ block_judged c l low p
     go (no x) y z = rw (le-ltb a c.second (omega arith), le-ltb p.first c.second (omega arith))
@@ -128,10 +128,10 @@ capped-block c low l p a b d hz hm hn ea eb ed = go (dec_lt p.first cap) (dec_lt
         rw (i, j, k)
 
 -- the place after an entry that was not refused, as the code keeps it
-pub after-capped : (c : Triple) (low : Pair) (l : ℕ) (p : Triple) (a b : ℕ) → c.second ≤ cap → c.third ≤ cap
+pub after_capped : (c : Triple) (low : Pair) (l : ℕ) (p : Triple) (a b : ℕ) → c.second ≤ cap → c.third ≤ cap
     → a ≡ min p.first cap → b ≡ min p.second cap → block_judged c l low p ≡ Admitted → after (place p) ≡ pair a (b + 1)
-after-capped c low l p a b hm hn ea eb j =
-    let f = (judged-fits c low p l j).place-fits in
+after_capped c low l p a b hm hn ea eb j =
+    let f = (judged_fits c low p l j).place_fits in
     ap₂ pair (omega (arith, f.check)) (omega (arith, f.variable))
 
 -- size and counts within limits are not capped
@@ -153,7 +153,7 @@ factor (suc x) (suc z) most l u = (
 
 pub exact : (c : Triple) (a b d : ℕ) → a ≡ min c.first cap → b ≡ min c.second cap → d ≡ min c.third cap → size_judged c ≡ Admitted → Exact c a b d
 exact c a b d ea eb ed h =
-    let w = judged-within c h in
+    let w = judged_within c h in
     let n = factor c.third c.first limits.variables (omega (arith, w.1.0.0)) w.1.0.1 in
     let m = factor c.second c.first limits.checks w.1.1.0 w.1.1.1 in
     let i : c.first ≡ a = omega arith in

@@ -7,7 +7,7 @@ use native.Mathlib.Omega.{arith}
 use borrow.Author.Tests.{ltb-true, ltb-false, lt-ltb, le-ltb}
 use lib.Dec.{ltb}
 use Rattle.rules.specs.Ranges.{fold}
-use Rattle.rules.proofs.Ranges.{First, first-is, first-only}
+use Rattle.rules.proofs.Ranges.{First, first_is, first_only}
 use Rattle.block_sheets.specs.Text.Expansion.{row_start, row_of}
 
 module _ (degree : ℕ → ℕ) where
@@ -15,30 +15,30 @@ module _ (degree : ℕ → ℕ) where
   unfolding row_start fold
   start_none = refl
 
-  pub start-next : (c : ℕ) → row_start degree (suc c) ≡ row_start degree c + degree c
+  pub start_next : (c : ℕ) → row_start degree (suc c) ≡ row_start degree c + degree c
   unfolding row_start fold
-  start-next c = ap (λ (x : ℕ). row_start degree c + degree x) (zero-add c)
+  start_next c = ap (λ (x : ℕ). row_start degree c + degree x) (zero-add c)
 
-  pub starts-rise : (c d : ℕ) → c ≤ d → row_start degree c ≤ row_start degree d
-  starts-rise c zero l = let p : c ≡ 0 = omega arith in rw p (omega arith)
-  starts-rise c (suc d) l = go (ℕ_discrete c (suc d)) (starts-rise c d)
+  pub starts_rise : (c d : ℕ) → c ≤ d → row_start degree c ≤ row_start degree d
+  starts_rise c zero l = let p : c ≡ 0 = omega arith in rw p (omega arith)
+  starts_rise c (suc d) l = go (ℕ_discrete c (suc d)) (starts_rise c d)
     where
       go : Dec (c ≡ suc d) → (c ≤ d → row_start degree c ≤ row_start degree d) → row_start degree c ≤ row_start degree (suc d)
       go (yes p) ih = rw p (omega arith)
-      go (no p) ih = omega (arith, ih (omega arith), start-next d)
+      go (no p) ih = omega (arith, ih (omega arith), start_next d)
 
   module _ (m e : ℕ) where
     -- an entry stands in its row
     pub row_within : e < row_start degree m
         → (row_of degree m e < m) × (row_start degree (row_of degree m e) ≤ e) × (e < row_start degree (row_of degree m e) + degree (row_of degree m e))
     unfolding row_of
-    row_within h = (inside, from c refl, omega (arith, ltb-true e (row_start degree (suc c)) (f.found (omega (arith, inside))), start-next c))
+    row_within h = (inside, from c refl, omega (arith, ltb-true e (row_start degree (suc c)) (f.found (omega (arith, inside))), start_next c))
       where
         c : ℕ
         c = row_of degree m e
 
         f : First (λ c. ltb e (row_start degree (suc c))) 0 m c
-        f = first-is (λ c. ltb e (row_start degree (suc c))) 0 m
+        f = first_is (λ c. ltb e (row_start degree (suc c))) 0 m
 
         from : (j : ℕ) → j ≡ c → row_start degree j ≤ e
         from zero p = omega (arith, start_none)
@@ -54,31 +54,31 @@ module _ (degree : ℕ → ℕ) where
     -- and in no other
     pub row_is : (c : ℕ) → c < m → row_start degree c ≤ e → e < row_start degree c + degree c → row_of degree m e ≡ c
     unfolding row_of
-    row_is c h l u = first-only (first-is (λ c. ltb e (row_start degree (suc c))) 0 m) (record {
+    row_is c h l u = first_only (first_is (λ c. ltb e (row_start degree (suc c))) 0 m) (record {
       low = omega arith;
       high = omega arith;
-      before = λ k _ n. le-ltb e (row_start degree (suc k)) (omega (arith, starts-rise (suc k) c n));
-      found = λ _. lt-ltb e (row_start degree (suc c)) (omega (arith, start-next c));
+      before = λ k _ n. le-ltb e (row_start degree (suc k)) (omega (arith, starts_rise (suc k) c n));
+      found = λ _. lt-ltb e (row_start degree (suc c)) (omega (arith, start_next c));
     })
 
   -- entry p of row c
-  pub column-at : (m : ℕ) (at : ℕ → ℕ → ℕ) (c p : ℕ) → c < m → p < degree c
+  pub column_at_lem : (m : ℕ) (at : ℕ → ℕ → ℕ) (c p : ℕ) → c < m → p < degree c
       → at (row_of degree m (row_start degree c + p)) (row_start degree c + p - row_start degree (row_of degree m (row_start degree c + p))) ≡ at c p
-  column-at m at c p h l =
+  column_at_lem m at c p h l =
       let q = row_is m (row_start degree c + p) c h (omega arith) (omega arith) in
       rw q (ap (at c) (omega arith))
 
 -- ---- a number below n, and one below Z within it: jZ + x
 
 module _ (Z j x : ℕ) (l : x < Z) where
-  pub part-div : (j * Z + x) / Z ≡ j
-  part-div = omega (arith, mul-add-div_right {m = Z} (omega arith) j x, div-eq_of_lt {n = x} {m = Z} l)
+  pub part_div : (j * Z + x) / Z ≡ j
+  part_div = omega (arith, mul-add-div_right {m = Z} (omega arith) j x, div-eq_of_lt {n = x} {m = Z} l)
 
-  pub part-mod : (j * Z + x) % Z ≡ x
-  part-mod = mul-add-mod_self_right j Z x ∙ mod-eq_of_lt {n = x} {m = Z} l
+  pub part_mod : (j * Z + x) % Z ≡ x
+  part_mod = mul-add-mod_self_right j Z x ∙ mod-eq_of_lt {n = x} {m = Z} l
 
-  pub part-below : (n : ℕ) → j < n → j * Z + x < n * Z
-  part-below n h = omega (arith, mul-le-mul_right {m = suc j} {n = n} Z h, suc-mul j Z)
+  pub part_below : (n : ℕ) → j < n → j * Z + x < n * Z
+  part_below n h = omega (arith, mul-le-mul_right {m = suc j} {n = n} Z h, suc-mul j Z)
 
 -- rows that come Z at a time: where the starts s of the Z-fold rows rise from 0
 module _ (Z : ℕ) (s : ℕ → ℕ) (begins : s 0 ≡ 0) (rise : (i : ℕ) → s i ≤ s (suc i)) where
@@ -92,7 +92,7 @@ module _ (Z : ℕ) (s : ℕ → ℕ) (begins : s 0 ≡ 0) (rise : (i : ℕ) → 
   along i zero h b = b
   along i (suc r) h b =
       let d = s (suc i) - s i in
-      ap (row_start times) (omega arith) ∙ start-next times (i * Z + r) ∙ ap₂ ◌+◌ (along i r (omega arith) b) (ap (λ (x : ℕ). s (suc x) - s x) (part-div Z i r h))
+      ap (row_start times) (omega arith) ∙ start_next times (i * Z + r) ∙ ap₂ ◌+◌ (along i r (omega arith) b) (ap (λ (x : ℕ). s (suc x) - s x) (part_div Z i r h))
       ∙ omega (arith, suc-mul r d)
 
   blocks : (i : ℕ) → Starts i 0
@@ -103,5 +103,5 @@ module _ (Z : ℕ) (s : ℕ → ℕ) (begins : s 0 ≡ 0) (rise : (i : ℕ) → 
       ap (row_start times) (omega (arith, suc-mul i Z)) ∙ along i Z (omega arith) (blocks i) ∙ omega (arith, mul-add Z (s i) d, ap (λ (x : ℕ). Z * x) sum)
 
   -- where row iZ + r starts
-  pub start-times : (i r : ℕ) → r ≤ Z → row_start times (i * Z + r) ≡ Z * s i + r * (s (suc i) - s i)
-  start-times i r h = along i r h (blocks i)
+  pub start_times : (i r : ℕ) → r ≤ Z → row_start times (i * Z + r) ≡ Z * s i + r * (s (suc i) - s i)
+  start_times i r h = along i r h (blocks i)

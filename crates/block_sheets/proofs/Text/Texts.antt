@@ -11,34 +11,34 @@ use Rattle.texts.specs.Reading as Listing
 use Rattle.texts.specs.Reading.{lines}
 use Rattle.texts.specs.Order.{Lined}
 use Rattle.texts.proofs.Order.{ReadableEntries, Readable, Judging}
-use Rattle.texts.proofs.Sheets.{sheet-given, sheet-read, sheet-told}
+use Rattle.texts.proofs.Sheets.{sheet_given_lem, sheet_read_lem, sheet_told}
 use Rattle.texts.specs.Triples.{Triple}
 use Rattle.block_sheets.specs.Text.Blocks.{Blocks}
 use Rattle.block_sheets.specs.Text.Reading.{counted, blocks_of, block_entries, block_layout, block_text, block_lines}
 use Rattle.block_sheets.specs.Text.Theorems.{BlockFits, Valid, NoSheet, TextsAndBlocks}
-use Rattle.texts.proofs.Triples.{triple-reads, triple-text, triple-empty}
-use Rattle.block_sheets.proofs.Text.Judging.{fits-judged, judged-fits, within-judged, judged-within}
+use Rattle.texts.proofs.Triples.{triple_reads, triple_text_lem, triple_empty}
+use Rattle.block_sheets.proofs.Text.Judging.{fits_judged, judged_fits, within_judged_lem, judged_within}
 
-pub readable-entries : ReadableEntries block_entries
-readable-entries = record { entry-reads = triple-reads; entry-text = triple-text; entry-empty = triple-empty }
+pub readable_entries : ReadableEntries block_entries
+readable_entries = record { entry_reads = triple_reads; entry_text_lem = triple_text_lem; entry_empty = triple_empty }
 
 pub readable : Readable block_layout
-readable = record { counts-reads = triple-reads; counts-text = triple-text; entries = readable-entries }
+readable = record { counts_reads = triple_reads; counts_text_lem = triple_text_lem; entries = readable_entries }
 
 pub judging : Judging block_entries BlockFits
-judging = record { fits-judged = fits-judged; judged-fits = judged-fits }
+judging = record { fits_judged = fits_judged; judged_fits = judged_fits }
 
 -- valid blocks are those that a sheet may have
-pub valid-lined : (b : Blocks) → Valid b → Lined block_layout BlockFits (counted b) b.entries
-valid-lined b v = record {
-  counts = within-judged (counted b) v.ordered.some (v.variables, v.checks);
+pub valid_lined : (b : Blocks) → Valid b → Lined block_layout BlockFits (counted b) b.entries
+valid_lined b v = record {
+  counts = within_judged_lem (counted b) v.ordered.some (v.variables, v.checks);
   rising = v.ordered.rising;
   few = (le-div_iff_mul-le {k = b.size} {x = length b.entries} {y = limits.entries} v.ordered.some).1 (omega (arith, v.few, mul_comm b.size (length b.entries)));
 }
 
-pub lined-valid : (c : Triple) (ps : List Triple) → Lined block_layout BlockFits c ps → Valid (blocks_of c ps)
-lined-valid c ps h =
-    let w = judged-within c h.counts in
+pub lined_valid : (c : Triple) (ps : List Triple) → Lined block_layout BlockFits c ps → Valid (blocks_of c ps)
+lined_valid c ps h =
+    let w = judged_within c h.counts in
     record {
       ordered = record { some = w.0; rising = h.rising };
       variables = w.1.0;
@@ -47,13 +47,13 @@ lined-valid c ps h =
     }
 
 back : (b : Blocks) → Valid b → block_lines (block_text b) ≡ lines (counted b) b.entries
-back b v = sheet-read block_layout readable BlockFits judging (counted b) b.entries (valid-lined b v)
+back b v = sheet_read_lem block_layout readable BlockFits judging (counted b) b.entries (valid_lined b v)
 
-pub texts-and-blocks : TextsAndBlocks
-texts-and-blocks = record {
-  accepted = λ t c ps e. let w = sheet-told block_layout readable BlockFits judging t c ps e in (lined-valid c ps w.1, w.0);
+pub texts_and_blocks : TextsAndBlocks
+texts_and_blocks = record {
+  accepted = λ t c ps e. let w = sheet_told block_layout readable BlockFits judging t c ps e in (lined_valid c ps w.1, w.0);
   back = back;
-  refused_alike = λ b. sheet-given block_layout readable BlockFits judging (counted b) b.entries;
+  refused_alike = λ b. sheet_given_lem block_layout readable BlockFits judging (counted b) b.entries;
   one_blocks = λ a b u v e. same a b (sym (back a u) ∙ ap block_lines e ∙ back b v);
 }
   where
@@ -63,6 +63,6 @@ texts-and-blocks = record {
         let r : a.entries ≡ b.entries = cc in
         ap₂ blocks_of q r
 
-pub no-sheet : NoSheet
+pub no_sheet : NoSheet
 unfolding Listing.sheet_lines Layouts.sheet_of fixed
-no-sheet L b = refl
+no_sheet L b = refl

@@ -48,8 +48,8 @@ pub record RowAt (b : Blocks) (s : List ℕ) (from left i bases shifts : ℕ) : 
   pub at : EntriesAt b s from (start_of_block b i)
   pub left_is : left + start_of_block b i ≡ length b.entries
   pub row : i < b.rows
-  pub room-bases : wide * block_degree b i ≤ bases
-  pub room-shifts : wide * block_degree b i ≤ shifts
+  pub room_bases : wide * block_degree b i ≤ bases
+  pub room_shifts : wide * block_degree b i ≤ shifts
 
 -- Any blocks of this size may be those of the text.
 pub record RowAhead (s : List ℕ) (from left i size bases shifts : ℕ) : Type 0 where
@@ -61,8 +61,8 @@ pub record RowAhead (s : List ℕ) (from left i size bases shifts : ℕ) : Type 
 pub record RowRead (b : Blocks) (s : List ℕ) (i : ℕ) (r : Row) (bases₀ bases shifts₀ shifts : List ℕ) : Type 0 where
   pub degree : r.degree ≡ block_degree b i
   pub next : EntriesAt b s r.next (start_of_block b (suc i))
-  pub bases-are : Filled wide (base_of b i) bases₀ bases r.degree
-  pub shifts-are : Filled wide (shift_of b i) shifts₀ shifts r.degree
+  pub bases_are : Filled wide (base_of b i) bases₀ bases r.degree
+  pub shifts_are : Filled wide (shift_of b i) shifts₀ shifts r.degree
 
 -- ---- the checks of a block row
 
@@ -89,8 +89,8 @@ one_of base shift size r = base + (r + shift) % size
 
 -- The d ones of a check: bases and shifts below the size.
 pub record Ones (bases shifts : List ℕ) (d size : ℕ) : Type 0 where
-  pub room-bases : wide * d ≤ length bases
-  pub room-shifts : wide * d ≤ length shifts
+  pub room_bases : wide * d ≤ length bases
+  pub room_shifts : wide * d ≤ length shifts
   pub small : (p : ℕ) → p < d → column_at bases p + size ≤ 256 ^ wide
   pub shift : (p : ℕ) → p < d → column_at shifts p < size
 

@@ -16,7 +16,7 @@ use Rattle.block_sheets.specs.Text.Expansion.{expansion}
 
 -- Of size, rows and columns c, the entry p may stand at the place `low` or after it: row and column in range, the shift below Z.
 pub record BlockFits (c : Triple) (low : Pair) (p : Triple) : Type 0 where
-  pub place-fits : Fits (pair c.third c.second) low (place p)
+  pub place_fits : Fits (pair c.third c.second) low (place p)
   pub shift : p.third < c.first
 
 -- 'Entries rising by row and then column, at most one per pair.'
@@ -30,8 +30,8 @@ pub record Ordered (b : Blocks) : Type 0 where
 pub record Puts (b : Blocks) (c v : ℕ) : Type 0 where
   pub entry : ℕ
   pub r : ℕ
-  pub is-entry : entry < length b.entries
-  pub is-turn : r < b.size
+  pub is_entry : entry < length b.entries
+  pub is_turn : r < b.size
   pub check : c ≡ (block_at b entry).first * b.size + r
   pub variable : v ≡ (block_at b entry).second * b.size + (r + (block_at b entry).third) % b.size
 

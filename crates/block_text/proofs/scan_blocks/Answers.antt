@@ -1,7 +1,7 @@
 use Rattle.block_text.proofs.Passes.{block_refused, block_more}
 use Rattle.block_sheets.specs.Text.Reading.{block_entries, room_of}
 use Rattle.texts.specs.Triples.{triple, TripleAt}
-use Rattle.texts.proofs.Passes.{scanning-none, scanning-end, scanning-many, scanning-other}
+use Rattle.texts.proofs.Passes.{scanning_none, scanning_end, scanning_many, scanning_other}
 use Rattle.rules.specs.Graphs.{limits}
 use native.Mathlib.Nat.{div-le_self}
 use native.Mathlib.Omega.{arith}
@@ -10,19 +10,19 @@ use mathlib.Core.Path.{subst}
 use Rattle.block_text.proofs.scan_blocks.Goals as goal
 
 pub loop-at-init : goal.loop-at-init
-loop-at-init c = (omega arith, scanning-none block_entries (room_of c.args.size) (triple c.args.size c.args.rows c.args.columns) c.args.text.now c.args.from c.requires.0)
+loop-at-init c = (omega arith, scanning_none block_entries (room_of c.args.size) (triple c.args.size c.args.rows c.args.columns) c.args.text.now c.args.from c.requires.0)
 
 pub overflow_add-result : goal.overflow_add-result
 overflow_add-result c = omega (arith, div-le_self limits.entries c.args.size)
 
 pub returns-then-room-n : goal.returns-then-room-n
-returns-then-room-n c = scanning-many c.loop-at.invariant.1 (omega arith) (omega arith)
+returns-then-room-n c = scanning_many c.loop-at.invariant.1 (omega arith) (omega arith)
 
 pub overflow_add-result-in_default : goal.overflow_add-result-in_default
 overflow_add-result-in_default c = omega (arith, div-le_self limits.entries c.args.size)
 
 pub returns-in_default : goal.returns-in_default
-returns-in_default c = scanning-other c.loop-at.invariant.1 (omega arith) (omega arith) (subst (TripleAt c.args.text.now c.loop-at.at) c.in_default.is c.three_at-line.ensures)
+returns-in_default c = scanning_other c.loop-at.invariant.1 (omega arith) (omega arith) (subst (TripleAt c.args.text.now c.loop-at.at) c.in_default.is c.three_at-line.ensures)
 
 pub overflow_add-n : goal.overflow_add-n
 overflow_add-n c = omega (arith, div-le_self limits.entries c.args.size)
@@ -53,4 +53,4 @@ loop-at-preserved c =
 pub returns : goal.returns
 returns c =
     let q = c.loop-at.invariant.1 in
-    record { entries = q.done; are = scanning-end q (omega arith); many = q.got; rest = scanning-end q (omega arith) }
+    record { entries = q.done; are = scanning_end q (omega arith); many = q.got; rest = scanning_end q (omega arith) }

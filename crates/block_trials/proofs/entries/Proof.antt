@@ -3,7 +3,7 @@ use Prim.Native.Nat.{◌-◌, ◌/◌, ◌≤◌}
 use native.Mathlib.Omega.{arith}
 use lib.ListN.{length}
 use Rattle.words.specs.Roles.{wide}
-use Rattle.words.proofs.Words.{length-stored}
+use Rattle.words.proofs.Words.{length_stored}
 use Rattle.texts.specs.Triples.{TripleAt}
 use borrow.Author.Rules.{rules}
 use Rattle.block_trials.proofs.entries.Statement.{statement}
@@ -86,7 +86,7 @@ loop-less c = let r = subst (TripleAt c.before.before.before.before.before.befor
     omega (arith, r.on, r.within)
 
 loop-again : tie.Need-loop-preserved invariant-loop decreases-loop
-loop-again c = (ap length c.before.before.put-column3.ensures ∙ length-stored wide _ _ _ ∙ ap length c.before.before.before.before.before.before.put-column2.ensures ∙ length-stored wide _ _ _ ∙ ap length c.before.before.before.before.before.before.before.before.before.before.put-column.ensures ∙ length-stored wide _ _ _ ∙ c.before.before.before.before.before.before.before.before.before.before.before.before.before.before.before.before.before.before.before.before.loop.invariant.0, omega arith)
+loop-again c = (ap length c.before.before.put-column3.ensures ∙ length_stored wide _ _ _ ∙ ap length c.before.before.before.before.before.before.put-column2.ensures ∙ length_stored wide _ _ _ ∙ ap length c.before.before.before.before.before.before.before.before.before.before.put-column.ensures ∙ length_stored wide _ _ _ ∙ c.before.before.before.before.before.before.before.before.before.before.before.before.before.before.before.before.before.before.before.before.loop.invariant.0, omega arith)
 
 mul-result : tie.Need-overflow-mul-result invariant-loop decreases-loop
 mul-result c = omega (arith, c.before.loop.invariant)
@@ -97,8 +97,8 @@ same-length-4 c = c.before.loop.invariant.0
 returns-4 : tie.Need-returns-4 invariant-loop decreases-loop
 returns-4 c = search rules
 
-pub entries-spec : {M : Type 1} → statement M
-entries-spec =
+pub entries_spec : {M : Type 1} → statement M
+entries_spec =
     tie.close
     (tie.spec
     invariant-loop

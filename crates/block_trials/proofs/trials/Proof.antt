@@ -77,8 +77,8 @@ loop-again c = let r = subst (NumberAt (field lf) c.before.before.before.before.
 returns-3 : tie.Need-returns-3 invariant-loop decreases-loop
 returns-3 c = search rules
 
-pub trials-spec : {M : Type 1} → statement M
-trials-spec =
+pub trials_spec : {M : Type 1} → statement M
+trials_spec =
     tie.close
     (tie.spec
     invariant-loop

@@ -38,8 +38,8 @@ returns c = search rules
 returns-2 : tie.Need-returns-2
 returns-2 c = search rules
 
-pub write-entries-spec : {M : Type 1} → statement M
-write-entries-spec =
+pub write_entries_spec : {M : Type 1} → statement M
+write_entries_spec =
     tie.close
     (tie.spec
     slice-aggregate-entries

@@ -45,8 +45,8 @@ returns-2 c = search rules
 returns-3 : tie.Need-returns-3
 returns-3 c = search rules
 
-pub write-graph-spec : {M : Type 1} → statement M
-write-graph-spec =
+pub write_graph_spec : {M : Type 1} → statement M
+write_graph_spec =
     tie.close
     (tie.spec
     mul-write

@@ -1,27 +1,27 @@
 use Prim.Native.Nat.{◌-◌, ◌/◌}
 use native.Mathlib.Omega.{arith}
 use lib.ListN.{length}
-use Rattle.texts.proofs.Putting.{put-long}
-use Rattle.sheet_writer.proofs.Putting.{put-begun, put_next, put-room, put_all}
+use Rattle.texts.proofs.Putting.{put_long}
+use Rattle.sheet_writer.proofs.Putting.{put_begun, put_next, put_room, put_all}
 use Rattle.block_sheets.proofs.Writer.Texts.{all_lines}
-use Rattle.block_writer.proofs.Entries.{entry-line}
+use Rattle.block_writer.proofs.Entries.{entry_line_lem}
 use Rattle.block_writer.proofs.put_entries.Goals as goal
 
 pub loop-q-init : goal.loop-q-init
-loop-q-init c = (omega arith, put-begun)
+loop-q-init c = (omega arith, put_begun)
 
 pub put_line-next-requires : goal.put_line-next-requires
 put_line-next-requires c =
-    let e = entry-line (record { first = c.row-i.ensures.0; second = c.column-j.ensures.0; third = c.shift-k.ensures.0 }) in
-    put-room (length c.args.entries.now / 12) (all_lines c.args.entries.now) c.loop-q.invariant.1 c.requires (omega arith) e
+    let e = entry_line_lem (record { first = c.row-i.ensures.0; second = c.column-j.ensures.0; third = c.shift-k.ensures.0 }) in
+    put_room (length c.args.entries.now / 12) (all_lines c.args.entries.now) c.loop-q.invariant.1 c.requires (omega arith) e
 
 pub loop-q-preserved : goal.loop-q-preserved
 loop-q-preserved c =
-    let e = entry-line (record { first = c.row-i.ensures.0; second = c.column-j.ensures.0; third = c.shift-k.ensures.0 }) in
+    let e = entry_line_lem (record { first = c.row-i.ensures.0; second = c.column-j.ensures.0; third = c.shift-k.ensures.0 }) in
     (omega arith, put_next c.loop-q.invariant.1 c.put_line-next.ensures e)
 
 pub shape_of-text : goal.shape_of-text
-shape_of-text c = put-long c.loop-q.invariant.1.put
+shape_of-text c = put_long c.loop-q.invariant.1.put
 
 pub returns : goal.returns
 returns c = put_all (omega arith) (all_lines c.args.entries.now) c.loop-q.invariant.1

@@ -1,5 +1,5 @@
-use Rattle.settings.proofs.Floats.{positive-is}
+use Rattle.settings.proofs.Floats.{positive_is}
 use Rattle.channel.proofs.is_positive.Goals as goal
 
 pub returns : goal.returns
-returns c = positive-is c.args.x
+returns c = positive_is c.args.x

@@ -3,9 +3,9 @@ use Prim.Native.Nat.{◌<◌, ◌-◌, ◌/◌}
 use native.Mathlib.Omega.{arith}
 use lib.ListN.{length}
 use borrow.Rule.Slice.PartMut.{mid_len}
-use Rattle.rules.proofs.Filling.{filled_none, filled-all}
+use Rattle.rules.proofs.Filling.{filled_none, filled_all}
 use Rattle.words.specs.Roles.{wide, start_at}
-use Rattle.nodes.proofs.RowLaws.{row_fits, row-filled}
+use Rattle.nodes.proofs.RowLaws.{row_fits, row_filled}
 use Rattle.check_nodes.proofs.check_nodes.Goals as goal
 
 pub overflow_sub-m : goal.overflow_sub-m
@@ -37,7 +37,7 @@ loop-i-preserved c =
     let h : c.loop-i.i < length c.args.starts.now / wide - 1 = omega arith in
     let e = c.requires in (
       omega arith,
-      row-filled c.args.starts.now (length c.args.incoming.now) e.0 c.args.incoming.now (omega arith) (omega arith) h c.start-a.ensures.0 c.start-b.ensures.0
+      row_filled c.args.starts.now (length c.args.incoming.now) e.0 c.args.incoming.now (omega arith) (omega arith) h c.start-a.ensures.0 c.start-b.ensures.0
           c.loop-i.invariant.1 c.check_row.ensures,
     )
 
@@ -47,7 +47,7 @@ shape_of-outgoing c = c.loop-i.invariant.1.long
 pub returns : goal.returns
 returns c =
     let e : c.loop-i.i ≡ length c.args.starts.now / wide - 1 = omega arith in
-    filled-all (ap (start_at c.args.starts.now) e ∙ c.requires.0.all) (omega arith) c.loop-i.invariant.1
+    filled_all (ap (start_at c.args.starts.now) e ∙ c.requires.0.all) (omega arith) c.loop-i.invariant.1
 
 pub slice_bounds-check_row-end : goal.slice_bounds-check_row-end
 slice_bounds-check_row-end c = omega (arith, c.start-a.ensures.0, c.start-b.ensures.0, row_fits c.args.starts.now _ c.requires.0 c.loop-i.i (omega arith))

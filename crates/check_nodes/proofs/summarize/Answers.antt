@@ -4,11 +4,11 @@ use native.Mathlib.Omega.{arith}
 use lib.ListN.{length}
 use Rattle.rules.specs.Levels.{level_of}
 use Rattle.nodes.specs.Memory.{level_in}
-use Rattle.nodes.proofs.RowLaws.{kept-none, kept_more}
+use Rattle.nodes.proofs.RowLaws.{kept_none, kept_more}
 use Rattle.check_nodes.proofs.summarize.Goals as goal
 
 pub loop-k-init : goal.loop-k-init
-loop-k-init c = (omega arith, kept-none (level_in c.args.incoming.now))
+loop-k-init c = (omega arith, kept_none (level_in c.args.incoming.now))
 
 pub loop-k-preserved : goal.loop-k-preserved
 unfolding level_of

@@ -14,6 +14,6 @@ use Rattle.code_sheets.specs.Text.Reading.{start_in, column_in}
 use Rattle.code_sheets.specs.Reader.Reading.{sheet_read_in}
 use Rattle.code_sheets.specs.Reader.Trials.{trials, told, written_as, passes, TrialsPass}
 
-pub trials-pass : TrialsPass
+pub trials_pass : TrialsPass
 unfolding fold count joined tabulate variable_degree each check_degrees_judged variable_degrees_judged digits decimal more number line_text lines_text field line fixed sheet_of row_entries entries_of sheet_text rows sheet_lines start_in column_in bytes table sheet_read_in trials told written_as passes failures
-trials-pass = refl
+trials_pass = refl

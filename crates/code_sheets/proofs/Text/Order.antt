@@ -9,7 +9,7 @@ use lib.Dec.{eqb, leb, ltb}
 use Rattle.refusals.specs.Refusals.{unless}
 use Rattle.refusals.specs.declared.Refusal.TheVariants.{Range, Order}
 use Rattle.refusals.specs.declared.Judged.TheVariants.{Admitted}
-use Rattle.refusals.proofs.Judging.{or_else-left, or_else-right, unless-true}
+use Rattle.refusals.proofs.Judging.{or_else_left, or_else_right, unless_true}
 use Rattle.rules.proofs.Tests.{and_left, and_right, and_both}
 use Rattle.texts.specs.Lines.{Pair}
 use Rattle.texts.specs.Order as Listing
@@ -26,8 +26,8 @@ pub record Fits (c low p : Pair) : Type 0 where
 abbrev pub Rising : Pair → Pair → List Pair → Type 0
 Rising c low ps = Listing.Rising sheet_entries Fits c low ps
 
-not-before : (low p : Pair) → low.first ≤ p.first → (low.first ≡ p.first → low.second ≤ p.second) → not_before low p ≡ true
-not-before low p h s = go (ltb low.first p.first) refl
+not_before_lem : (low p : Pair) → low.first ≤ p.first → (low.first ≡ p.first → low.second ≤ p.second) → not_before low p ≡ true
+not_before_lem low p h s = go (ltb low.first p.first) refl
   where
     go : (b : Bool) → ltb low.first p.first ≡ b → b || (eqb low.first p.first && leb low.second p.second) ≡ true
     go true e = refl
@@ -35,8 +35,8 @@ not-before low p h s = go (ltb low.first p.first) refl
         let q : low.first ≡ p.first = omega (arith, ltb-false low.first p.first e) in
         and_both (eq-eqb low.first p.first q) (le-leb low.second p.second (s q))
 
-not-before-told : (low p : Pair) → not_before low p ≡ true → (low.first ≤ p.first) × (low.first ≡ p.first → low.second ≤ p.second)
-not-before-told low p h = go (ltb low.first p.first) refl h
+not_before_told : (low p : Pair) → not_before low p ≡ true → (low.first ≤ p.first) × (low.first ≡ p.first → low.second ≤ p.second)
+not_before_told low p h = go (ltb low.first p.first) refl h
   where
     go : (b : Bool) → ltb low.first p.first ≡ b → b || (eqb low.first p.first && leb low.second p.second) ≡ true
         → (low.first ≤ p.first) × (low.first ≡ p.first → low.second ≤ p.second)
@@ -46,17 +46,17 @@ not-before-told low p h = go (ltb low.first p.first) refl h
         (omega arith, λ _. leb-true low.second p.second (and_right (eqb low.first p.first) (leb low.second p.second) q))
 
 module _ (c low p : Pair) (l : ℕ) where
-  pub fits-judged : Fits c low p → entry_judged c l low p ≡ Admitted
-  fits-judged f =
-      rw (lt-ltb p.first c.second f.check, lt-ltb p.second c.first f.variable, not-before low p f.from f.same)
+  pub fits_judged : Fits c low p → entry_judged c l low p ≡ Admitted
+  fits_judged f =
+      rw (lt-ltb p.first c.second f.check, lt-ltb p.second c.first f.variable, not_before_lem low p f.from f.same)
 
-  pub judged-fits : entry_judged c l low p ≡ Admitted → Fits c low p
-  judged-fits h =
+  pub judged_fits : entry_judged c l low p ≡ Admitted → Fits c low p
+  judged_fits h =
       let a = ltb p.first c.second in
       let b = ltb p.second c.first in
       let order = unless (not_before low p) (Order l) in
-      let range = unless-true (a && b) (Range l) (or_else-left (unless (a && b) (Range l)) order h) in
-      let told = not-before-told low p (unless-true (not_before low p) (Order l) (or_else-right (unless (a && b) (Range l)) order h)) in
+      let range = unless_true (a && b) (Range l) (or_else_left (unless (a && b) (Range l)) order h) in
+      let told = not_before_told low p (unless_true (not_before low p) (Order l) (or_else_right (unless (a && b) (Range l)) order h)) in
       record {
         check = ltb-true p.first c.second (and_left a b range);
         variable = ltb-true p.second c.first (and_right a b range);

@@ -12,12 +12,12 @@ use Rattle.rules.proofs.Tests.{and_no}
 use Rattle.texts.specs.Lines.{Pair, pair}
 use Rattle.texts.specs.Places.{cap}
 use Rattle.code_sheets.specs.Text.Reading.{counts_fit, after, entry_judged}
-use Rattle.code_sheets.proofs.Text.Order.{judged-fits}
+use Rattle.code_sheets.proofs.Text.Order.{judged_fits}
 
 -- a number above every limit is refused as the number itself is
-pub capped-entry : (c low : Pair) (l : ℕ) (p : Pair) (a b : ℕ) → c.first ≤ cap → c.second ≤ cap → a ≡ min p.first cap → b ≡ min p.second cap
+pub capped_entry : (c low : Pair) (l : ℕ) (p : Pair) (a b : ℕ) → c.first ≤ cap → c.second ≤ cap → a ≡ min p.first cap → b ≡ min p.second cap
     → entry_judged c l low (pair a b) ≡ entry_judged c l low p
-capped-entry c low l p a b hn hm ea eb = go (dec_lt p.first cap) (dec_lt p.second cap)
+capped_entry c low l p a b hn hm ea eb = go (dec_lt p.first cap) (dec_lt p.second cap)
   where
     go : Dec (p.first < cap) → Dec (p.second < cap) → entry_judged c l low (pair a b) ≡ entry_judged c l low p
     go (yes x) (yes y) = ap₂ (λ (i j : ℕ). entry_judged c l low (pair i j)) (omega arith) (omega arith)
@@ -25,9 +25,9 @@ capped-entry c low l p a b hn hm ea eb = go (dec_lt p.first cap) (dec_lt p.secon
     go (yes x) (no y) =
         rw (le-ltb b c.first (omega arith), le-ltb p.second c.first (omega arith), and_no (ltb a c.second), and_no (ltb p.first c.second))
 
-pub capped-counts : (L : Limits) → L.variables < cap → L.checks < cap → (p : Pair) (a b : ℕ) → a ≡ min p.first cap → b ≡ min p.second cap
+pub capped_counts : (L : Limits) → L.variables < cap → L.checks < cap → (p : Pair) (a b : ℕ) → a ≡ min p.first cap → b ≡ min p.second cap
     → counts_fit L (pair a b) ≡ counts_fit L p
-capped-counts L hn hm p a b ea eb = go (dec_lt p.first cap) (dec_lt p.second cap)
+capped_counts L hn hm p a b ea eb = go (dec_lt p.first cap) (dec_lt p.second cap)
   where
     go : Dec (p.first < cap) → Dec (p.second < cap) → counts_fit L (pair a b) ≡ counts_fit L p
     go (yes x) (yes y) =
@@ -52,8 +52,8 @@ capped-counts L hn hm p a b ea eb = go (dec_lt p.first cap) (dec_lt p.second cap
         )
 
 -- the place after an entry that was not refused, as the code keeps it
-pub after-capped : (c low : Pair) (l : ℕ) (p : Pair) (a b : ℕ) → c.first ≤ cap → c.second ≤ cap → a ≡ min p.first cap → b ≡ min p.second cap
+pub after_capped : (c low : Pair) (l : ℕ) (p : Pair) (a b : ℕ) → c.first ≤ cap → c.second ≤ cap → a ≡ min p.first cap → b ≡ min p.second cap
     → entry_judged c l low p ≡ Judgement.Admitted → after p ≡ pair a (b + 1)
-after-capped c low l p a b hn hm ea eb j =
-    let f = judged-fits c low p l j in
+after_capped c low l p a b hn hm ea eb j =
+    let f = judged_fits c low p l j in
     ap₂ pair (omega (arith, f.check)) (omega (arith, f.variable))

@@ -13,10 +13,10 @@ use Rattle.refusals.specs.declared.Refusal.{Refusal}
 use Rattle.refusals.specs.declared.Refusal.TheVariants.{Buffer}
 use Rattle.refusals.specs.declared.Judged.{Judged}
 use Rattle.refusals.specs.declared.Judged.TheVariants as Judgement
-use Rattle.refusals.proofs.Judging.{or_else-left, or_else-right, unless-true}
+use Rattle.refusals.proofs.Judging.{or_else_left, or_else_right, unless_true}
 use Rattle.graphs.specs.Judging.{graph_judged_in}
 use Rattle.graphs.specs.Degrees.{Checks}
-use Rattle.graphs.proofs.Lending.{lent-admitted}
+use Rattle.graphs.proofs.Lending.{lent_admitted}
 use Rattle.graphs.proofs.Wider.{found_before}
 use Rattle.code_sheets.specs.Text.Texts.{sheet_text}
 use Rattle.code_sheets.specs.declared.Written.TheVariants as Answer
@@ -28,35 +28,35 @@ use Rattle.texts.proofs.Putting.{put_front}
 -- ---- what is refused, where the check of the graph found j
 
 module _ (G : Graph) (room : ℕ) {j : Judged} {d d' : List ℕ} (k : Checks limits G j d d') where
-  pub graph-turned : {r : Refusal} → j ≡ Judgement.Refused r → JudgesWrite G room (Judgement.Refused r) d d'
+  pub graph_turned : {r : Refusal} → j ≡ Judgement.Refused r → JudgesWrite G room (Judgement.Refused r) d d'
   unfolding write_judged
-  graph-turned e = record { answer = sym (rw (sym k.answer ∙ e)); degrees = k.degrees }
+  graph_turned e = record { answer = sym (rw (sym k.answer ∙ e)); degrees = k.degrees }
 
   module _ (e : j ≡ Judgement.Admitted) where
-    pub graph-good : Admitted G
-    graph-good = lent-admitted G (length d) (sym k.answer ∙ e)
+    pub graph_good : Admitted G
+    graph_good = lent_admitted G (length d) (sym k.answer ∙ e)
 
     module _ {size : ℕ} (q : size ≡ length (sheet_text G)) where
-      pub buffer-turned : room < size → JudgesWrite G room (Judgement.Refused Buffer) d d'
+      pub buffer_turned : room < size → JudgesWrite G room (Judgement.Refused Buffer) d d'
       unfolding write_judged
-      buffer-turned l = record { answer = sym (rw (sym k.answer ∙ e, lt-leb (length (sheet_text G)) room (omega arith))); degrees = k.degrees }
+      buffer_turned l = record { answer = sym (rw (sym k.answer ∙ e, lt-leb (length (sheet_text G)) room (omega arith))); degrees = k.degrees }
 
-      pub none-turned : size ≤ room → JudgesWrite G room Judgement.Admitted d d'
+      pub none_turned : size ≤ room → JudgesWrite G room Judgement.Admitted d d'
       unfolding write_judged
-      none-turned l = record { answer = sym (rw (sym k.answer ∙ e, le-leb (length (sheet_text G)) room (omega arith))); degrees = k.degrees }
+      none_turned l = record { answer = sym (rw (sym k.answer ∙ e, le-leb (length (sheet_text G)) room (omega arith))); degrees = k.degrees }
 
 -- on graphs within the old limits nothing else is found than before
-pub writes-as-before : WritesAsBefore
-writes-as-before G d room o = ap (λ g. write_judged g G room) (found_before G d o)
+pub writes_as_before : WritesAsBefore
+writes_as_before G d room o = ap (λ g. write_judged g G room) (found_before G d o)
 
 -- ---- the answer, and the lent bytes
 
-pub write-admitted : (G : Graph) (d room : ℕ) → write_finds G d room ≡ Judgement.Admitted → Admitted G × (length (sheet_text G) ≤ room)
+pub write_admitted : (G : Graph) (d room : ℕ) → write_finds G d room ≡ Judgement.Admitted → Admitted G × (length (sheet_text G) ≤ room)
 unfolding write_judged
-write-admitted G d room h =
+write_admitted G d room h =
     let buffer = unless (leb (length (sheet_text G)) room) Buffer in (
-      lent-admitted G d (or_else-left (graph_judged_in limits G d) buffer h),
-      leb-true (length (sheet_text G)) room (unless-true (leb (length (sheet_text G)) room) Buffer (or_else-right (graph_judged_in limits G d) buffer h)),
+      lent_admitted G d (or_else_left (graph_judged_in limits G d) buffer h),
+      leb-true (length (sheet_text G)) room (unless_true (leb (length (sheet_text G)) room) Buffer (or_else_right (graph_judged_in limits G d) buffer h)),
     )
 
 module _ (G : Graph) (old : List ℕ) {j : Judged} {d d' : List ℕ} (k : JudgesWrite G (length old) j d d') where
@@ -68,12 +68,12 @@ module _ (G : Graph) (old : List ℕ) {j : Judged} {d d' : List ℕ} (k : Judges
   }
 
   module _ (e : j ≡ Judgement.Admitted) where
-    pub put-good : Admitted G × (length (sheet_text G) ≤ length old)
-    put-good = write-admitted G (length d) (length old) (sym k.answer ∙ e)
+    pub put_good : Admitted G × (length (sheet_text G) ≤ length old)
+    put_good = write_admitted G (length d) (length old) (sym k.answer ∙ e)
 
-    pub all-written : {now : List ℕ} {size : ℕ} → Put (sheet_text G) old now 0 size → WritesInto G (Answer.Length size) d d' old now
-    all-written p = let h = sym k.answer ∙ e in record {
+    pub all_written : {now : List ℕ} {size : ℕ} → Put (sheet_text G) old now 0 size → WritesInto G (Answer.Length size) d d' old now
+    all_written p = let h = sym k.answer ∙ e in record {
       answer = ap Answer.Length (p.after ∙ zero-add (length (sheet_text G))) ∙ sym (ap (λ x. write_answer x G) h);
       degrees = k.degrees;
-      text = put_front put-good.1 p ∙ sym (ap (λ x. written_in x G old) h);
+      text = put_front put_good.1 p ∙ sym (ap (λ x. written_in x G old) h);
     }

@@ -9,23 +9,23 @@ use native.Mathlib.Omega.{arith}
 use lib.ListN.{length, length-append}
 use Rattle.rules.specs.Ranges.{joined, tabulate}
 use Rattle.rules.specs.Graphs.{Graph, check_degree}
-use Rattle.rules.proofs.Ranges.{joined-ext}
+use Rattle.rules.proofs.Ranges.{joined_ext}
 use Rattle.texts.specs.Numbers.{decimal}
 use Rattle.texts.specs.Lines.{Pair, pair, line_text, lines_text}
-use Rattle.texts.proofs.Lines.{lines-append}
+use Rattle.texts.proofs.Lines.{lines_append}
 use Rattle.code_sheets.specs.Text.Texts.{sheet_of, row_entries, entries_of, sheet_text}
 
 -- ---- lines
 
-pub line-long : (a b : ℕ) → length (line_text (pair a b)) ≡ length (decimal a) + 1 + length (decimal b) + 1
+pub line_long : (a b : ℕ) → length (line_text (pair a b)) ≡ length (decimal a) + 1 + length (decimal b) + 1
 unfolding line_text
-line-long a b = simp length-append (omega arith)
+line_long a b = simp length-append (omega arith)
 
 -- the lines of entries that were put together
-lines-joined : (f : ℕ → List Pair) (n : ℕ) → lines_text (joined f n) ≡ joined (λ k. lines_text (f k)) n
+lines_joined : (f : ℕ → List Pair) (n : ℕ) → lines_text (joined f n) ≡ joined (λ k. lines_text (f k)) n
 unfolding joined lines_text
-lines-joined f zero = refl
-lines-joined f (suc n) = lines-append (joined f n) (f n) ∙ ap (λ t. t ++ lines_text (f n)) (lines-joined f n)
+lines_joined f zero = refl
+lines_joined f (suc n) = lines_append (joined f n) (f n) ∙ ap (λ t. t ++ lines_text (f n)) (lines_joined f n)
 
 one_line : (p : Pair) → lines_text (p ∷ []) ≡ line_text p
 unfolding lines_text
@@ -33,14 +33,14 @@ one_line p = append-nil (line_text p)
 
 -- ---- texts one after the other: one more, which lies within all
 
-pub joined-more : (f : ℕ → List ℕ) (k : ℕ) → joined f (k + 1) ≡ joined f k ++ f k
+pub joined_more : (f : ℕ → List ℕ) (k : ℕ) → joined f (k + 1) ≡ joined f k ++ f k
 unfolding joined
-joined-more f k = rw add-one
+joined_more f k = rw add-one
 
-pub joined-within : (f : ℕ → List ℕ) (k n : ℕ) → k < n → length (joined f k) + length (f k) ≤ length (joined f n)
+pub joined_within : (f : ℕ → List ℕ) (k n : ℕ) → k < n → length (joined f k) + length (f k) ≤ length (joined f n)
 unfolding joined
-joined-within f k zero h = absurd (omega arith)
-joined-within f k (suc n) h = rw length-append (⊎_elim here (λ l. omega (arith, joined-within f k n l)) (eq-or-lt_of_le (le_of_suc-le-suc h)))
+joined_within f k zero h = absurd (omega arith)
+joined_within f k (suc n) h = rw length-append (⊎_elim here (λ l. omega (arith, joined_within f k n l)) (eq-or-lt_of_le (le_of_suc-le-suc h)))
   where
     here : k ≡ n → length (joined f k) + length (f k) ≤ length (joined f n) + length (f n)
     here e = omega (arith, ap (λ j. length (joined f j)) e, ap (λ j. length (f j)) e)
@@ -56,17 +56,17 @@ module _ (G : Graph) where
   abbrev pub row_lines : ℕ → List ℕ
   row_lines i = lines_text (row_entries G i)
 
-  pub row-lines : (i : ℕ) → row_lines i ≡ joined (entry_line i) (check_degree G i)
+  pub row_lines_lem : (i : ℕ) → row_lines i ≡ joined (entry_line i) (check_degree G i)
   unfolding row_entries tabulate
-  row-lines i =
-      lines-joined (λ k. pair i (G.column (G.start i + k)) ∷ []) (check_degree G i)
-      ∙ joined-ext _ _ (check_degree G i) (λ k l. one_line (pair i (G.column (G.start i + k))))
+  row_lines_lem i =
+      lines_joined (λ k. pair i (G.column (G.start i + k)) ∷ []) (check_degree G i)
+      ∙ joined_ext _ _ (check_degree G i) (λ k l. one_line (pair i (G.column (G.start i + k))))
 
   pub all_lines : lines_text (entries_of G) ≡ joined row_lines G.checks
   unfolding entries_of
-  all_lines = lines-joined (row_entries G) G.checks
+  all_lines = lines_joined (row_entries G) G.checks
 
-  pub sheet-long : length (sheet_text G)
+  pub sheet_long : length (sheet_text G)
       ≡ 17 + length (line_text (pair G.variables G.checks)) + 15 + length (lines_text (entries_of G))
   unfolding sheet_text sheet_of
-  sheet-long = simp length-append (omega arith)
+  sheet_long = simp length-append (omega arith)

@@ -8,27 +8,27 @@ use Rattle.rules.specs.Graphs.{Graph}
 use Rattle.rules.specs.Sequence.{Scheme, State, state, unsatisfied_in, stop, final, report}
 use Rattle.rules.specs.Halting.{halted}
 use Rattle.rules.specs.declared.Verdict.TheVariants as Verdicts
-use Rattle.rules.proofs.Simulation.{state-number}
-use Rattle.rules.proofs.Stops.{run-stops}
-use Rattle.rules.proofs.Halting.{run-halts, final-number}
+use Rattle.rules.proofs.Simulation.{state_number}
+use Rattle.rules.proofs.Stops.{run_stops}
+use Rattle.rules.proofs.Halting.{run_halts, final_number}
 
 module _ (G : Graph) (R : Scheme) (limit : ℕ) where
   module _ (g : ℕ) (l : g ≤ stop G R limit) where
-    pub final-at : final G R g ≡ state G R g
+    pub final_at : final G R g ≡ state G R g
     unfolding halted
-    final-at =
-        let m : min g limit ≡ g = omega (arith, (run-stops G R limit).within) in
+    final_at =
+        let m : min g limit ≡ g = omega (arith, (run_stops G R limit).within) in
         let h : min g (stop G R limit) ≡ g = omega arith in
-        ap (final G R) (sym m) ∙ sym ((run-halts G R limit).shorter g) ∙ ap (state G R) h
+        ap (final G R) (sym m) ∙ sym ((run_halts G R limit).shorter g) ∙ ap (state G R) h
 
-    pub stop-at : stop G R g ≡ g
-    stop-at = sym (final-number G R g) ∙ ap (λ (σ : State). σ.iteration) final-at ∙ state-number G R g
+    pub stop_at : stop G R g ≡ g
+    stop_at = sym (final_number G R g) ∙ ap (λ (σ : State). σ.iteration) final_at ∙ state_number G R g
 
   -- under the limit where it ends, it is the run itself
-  pub alone-final : final G R (stop G R limit) ≡ final G R limit
+  pub alone_final : final G R (stop G R limit) ≡ final G R limit
   unfolding final
-  alone-final = ap (state G R) (stop-at (stop G R limit) (omega arith))
+  alone_final = ap (state G R) (stop_at (stop G R limit) (omega arith))
 
-  pub alone-report : report G R (stop G R limit) ≡ report G R limit
+  pub alone_report : report G R (stop G R limit) ≡ report G R limit
   unfolding report
-  alone-report = ap (λ (t : ℕ). record { verdict = cond (eqb (unsatisfied_in G R t) 0) Verdicts.Codeword Verdicts.Stopped; iterations = t; unsatisfied = unsatisfied_in G R t }) (stop-at (stop G R limit) (omega arith))
+  alone_report = ap (λ (t : ℕ). record { verdict = cond (eqb (unsatisfied_in G R t) 0) Verdicts.Codeword Verdicts.Stopped; iterations = t; unsatisfied = unsatisfied_in G R t }) (stop_at (stop G R limit) (omega arith))

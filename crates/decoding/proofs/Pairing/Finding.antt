@@ -9,14 +9,14 @@ use Rattle.refusals.specs.declared.Refusal.{Refusal}
 use Rattle.graphs.specs.Judging.{graph_judged_in}
 use Rattle.decoding.specs.declared.Room.{Room}
 use Rattle.decoding.specs.Decoding.{decode_judged, decode_finds}
-use Rattle.decoding.proofs.Accepting.{frame-passed, memory-told}
+use Rattle.decoding.proofs.Accepting.{frame_passed, memory_told}
 use Rattle.decoding.specs.declared.Party.{Party}
 use Rattle.decoding.specs.declared.Party.TheVariants.{First, Second, Pair}
 use Rattle.decoding.specs.Pairing.Pairs.{Heads, Found, admitted, refused, found_of, allowance_judged, graph_of_both, first_frame, second_frame, pair_finds}
 
-found-told : (p : Party) (j : Judged) (rest : Found) → found_of p j rest ≡ admitted → (j ≡ Judgement.Admitted) × (rest ≡ admitted)
-found-told p Judgement.Admitted rest h = (refl, h)
-found-told p (Judgement.Refused r) rest h = let z : ◌≡◌ {A = ℕ} 0 1 = cc in absurd (omega arith)
+found_told : (p : Party) (j : Judged) (rest : Found) → found_of p j rest ≡ admitted → (j ≡ Judgement.Admitted) × (rest ≡ admitted)
+found_told p Judgement.Admitted rest h = (refl, h)
+found_told p (Judgement.Refused r) rest h = let z : ◌≡◌ {A = ℕ} 0 1 = cc in absurd (omega arith)
 
 module _ (P : Heads) (d : ℕ) (m m' : Room) where
   abbrev pub last : Found
@@ -26,22 +26,22 @@ module _ (P : Heads) (d : ℕ) (m m' : Room) where
       → (decode_finds (first_frame P) d m ≡ Judgement.Admitted) × (decode_finds (second_frame P) d m' ≡ Judgement.Admitted) × (allowance_judged P.allowance ≡ Judgement.Admitted)
   unfolding pair_finds
   all_told h =
-      let a = found-told First (decode_finds (first_frame P) d m) (found_of Second (decode_finds (second_frame P) d m') last) h in
-      let b = found-told Second (decode_finds (second_frame P) d m') last a.1 in
-      (a.0, b.0, (found-told Pair (allowance_judged P.allowance) admitted b.1).0)
+      let a = found_told First (decode_finds (first_frame P) d m) (found_of Second (decode_finds (second_frame P) d m') last) h in
+      let b = found_told Second (decode_finds (second_frame P) d m') last a.1 in
+      (a.0, b.0, (found_told Pair (allowance_judged P.allowance) admitted b.1).0)
 
-  pub first-refused : {r : Refusal} → decode_finds (first_frame P) d m ≡ Judgement.Refused r → pair_finds P d m m' ≡ refused First r
+  pub first_refused : {r : Refusal} → decode_finds (first_frame P) d m ≡ Judgement.Refused r → pair_finds P d m m' ≡ refused First r
   unfolding pair_finds
-  first-refused h = ap (λ j. found_of First j (found_of Second (decode_finds (second_frame P) d m') last)) h
+  first_refused h = ap (λ j. found_of First j (found_of Second (decode_finds (second_frame P) d m') last)) h
 
   module _ (a : decode_finds (first_frame P) d m ≡ Judgement.Admitted) where
-    pub second-judged : {j : Judged} → decode_finds (second_frame P) d m' ≡ j → pair_finds P d m m' ≡ found_of Second j last
+    pub second_judged : {j : Judged} → decode_finds (second_frame P) d m' ≡ j → pair_finds P d m m' ≡ found_of Second j last
     unfolding pair_finds
-    second-judged h = ap₂ (λ i j. found_of First i (found_of Second j last)) a h
+    second_judged h = ap₂ (λ i j. found_of First i (found_of Second j last)) a h
 
-    pub graph-good : graph_judged_in limits (graph_of_both P) d ≡ Judgement.Admitted
-    graph-good = let g = graph_judged_in limits (graph_of_both P) d in (frame-passed (first_frame P) g (memory-told (first_frame P) g m a).0).0
+    pub graph_good : graph_judged_in limits (graph_of_both P) d ≡ Judgement.Admitted
+    graph_good = let g = graph_judged_in limits (graph_of_both P) d in (frame_passed (first_frame P) g (memory_told (first_frame P) g m a).0).0
 
     -- the graph was judged with the first head
-    pub second-only : decode_finds (second_frame P) d m' ≡ decode_judged (second_frame P) Judgement.Admitted m'
-    second-only = ap (λ g. decode_judged (second_frame P) g m') graph-good
+    pub second_only : decode_finds (second_frame P) d m' ≡ decode_judged (second_frame P) Judgement.Admitted m'
+    second_only = ap (λ g. decode_judged (second_frame P) g m') graph_good

@@ -1,7 +1,7 @@
 use Prim.Native.Nat.{◌-◌}
 use mathlib.Core.Path.{refl}
 use native.Mathlib.Omega.{arith}
-use Rattle.words.proofs.Filling.{filled_none, filled_more, filled-end}
+use Rattle.words.proofs.Filling.{filled_none, filled_more, filled_end}
 use Rattle.degrees.proofs.clear.Goals as goal
 
 pub loop-v-init : goal.loop-v-init
@@ -17,4 +17,4 @@ pub shape_of-degrees : goal.shape_of-degrees
 shape_of-degrees c = c.loop-v.invariant.1.long
 
 pub returns : goal.returns
-returns c = filled-end (omega arith) c.loop-v.invariant.1
+returns c = filled_end (omega arith) c.loop-v.invariant.1

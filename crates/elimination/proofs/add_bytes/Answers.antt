@@ -1,7 +1,7 @@
 use Prim.Native.Nat.{◌-◌}
 use native.Mathlib.Omega.{arith}
 use borrow.Author.Rules.{rules}
-use Rattle.elimination.proofs.Loops.{added_none, added_more, added-all}
+use Rattle.elimination.proofs.Loops.{added_none, added_more, added_all}
 use Rattle.elimination.proofs.add_bytes.Goals as goal
 
 pub loop-k-init : goal.loop-k-init
@@ -20,4 +20,4 @@ pub shape_of-work : goal.shape_of-work
 shape_of-work c = c.loop-k.invariant.1.long
 
 pub returns : goal.returns
-returns c = added-all (omega arith) c.loop-k.invariant.1
+returns c = added_all (omega arith) c.loop-k.invariant.1

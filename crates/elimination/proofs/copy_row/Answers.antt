@@ -2,7 +2,7 @@ use mathlib.Core.Path.{refl}
 use Prim.Native.Nat.{◌-◌}
 use native.Mathlib.Omega.{arith}
 use borrow.Author.Rules.{rules}
-use Rattle.rules.proofs.Filling.{filled_none, filled_more, filled-end}
+use Rattle.rules.proofs.Filling.{filled_none, filled_more, filled_end}
 use Rattle.elimination.proofs.copy_row.Goals as goal
 
 pub loop-k-init : goal.loop-k-init
@@ -20,4 +20,4 @@ pub shape_of-row : goal.shape_of-row
 shape_of-row c = c.loop-k.invariant.1.long
 
 pub returns : goal.returns
-returns c = filled-end (omega arith) c.loop-k.invariant.1
+returns c = filled_end (omega arith) c.loop-k.invariant.1

@@ -3,7 +3,7 @@ use native.Mathlib.Omega.{arith}
 use borrow.Author.Rules.{rules}
 use Rattle.elimination.specs.Rows.{width}
 use Rattle.elimination.proofs.Bytes.{row_fits, done_none}
-use Rattle.elimination.proofs.Steps.{replace-more, done_all}
+use Rattle.elimination.proofs.Steps.{replace_more, done_all}
 use Rattle.elimination.proofs.replace.Goals as goal
 
 pub loop-j-init : goal.loop-j-init
@@ -16,7 +16,7 @@ replace_one-requires c =
     (omega (arith, row_fits (width a.n) turn.j a.m (omega arith), turn.invariant.1.long), search rules)
 
 pub loop-j-preserved : goal.loop-j-preserved
-loop-j-preserved c = (search rules, replace-more _ _ c.requires.1 c.loop-j.invariant.1 c.replace_one.ensures)
+loop-j-preserved c = (search rules, replace_more _ _ c.requires.1 c.loop-j.invariant.1 c.replace_one.ensures)
 
 pub shape_of-work : goal.shape_of-work
 shape_of-work c = c.loop-j.invariant.1.long

@@ -1,6 +1,6 @@
 use Prim.Native.Nat.{◌-◌}
 use native.Mathlib.Omega.{arith}
-use Rattle.elimination.proofs.Bytes.{zero-byte}
+use Rattle.elimination.proofs.Bytes.{zero_byte}
 use Rattle.elimination.proofs.skip.Goals as goal
 
 pub returns-then-v-ne0 : goal.returns-then-v-ne0
@@ -12,4 +12,4 @@ returns-then-work-b-ne0 c = (omega arith, λ u a b. absurd (omega arith))
 pub returns : goal.returns
 returns c =
     let a = c.args in
-    (omega arith, λ u l k. zero-byte a.work.now a.b (a.v - 1) u c.if-work-b-ne0.false (omega arith))
+    (omega arith, λ u l k. zero_byte a.work.now a.b (a.v - 1) u c.if-work-b-ne0.false (omega arith))

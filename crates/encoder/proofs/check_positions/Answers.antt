@@ -2,7 +2,7 @@ use mathlib.Core.Path.{sym, ◌∙◌}
 use Prim.Native.Nat.{◌-◌}
 use native.Mathlib.Omega.{arith}
 use borrow.Author.Rules.{rules}
-use Rattle.refusals.proofs.Judging.{passed_none, passed-more, passed-all, failed-at}
+use Rattle.refusals.proofs.Judging.{passed_none, passed_more, passed_all, failed_at}
 use Rattle.codewords.specs.Encoding.{position_fits, positions_judged}
 use Rattle.encoder.proofs.check_positions.Goals as goal
 
@@ -11,11 +11,11 @@ loop-k-init c = (search rules, passed_none)
 
 pub returns-then-not-position_fits : goal.returns-then-not-position_fits
 unfolding positions_judged
-returns-then-not-position_fits c = sym (failed-at c.loop-k.invariant.1 (sym c.position_fits.ensures ∙ c.if-not-position_fits.true) (omega arith))
+returns-then-not-position_fits c = sym (failed_at c.loop-k.invariant.1 (sym c.position_fits.ensures ∙ c.if-not-position_fits.true) (omega arith))
 
 pub loop-k-preserved : goal.loop-k-preserved
-loop-k-preserved c = (search rules, passed-more c.loop-k.invariant.1 (sym c.position_fits.ensures ∙ c.if-not-position_fits.false))
+loop-k-preserved c = (search rules, passed_more c.loop-k.invariant.1 (sym c.position_fits.ensures ∙ c.if-not-position_fits.false))
 
 pub returns : goal.returns
 unfolding positions_judged
-returns c = sym (passed-all c.loop-k.invariant.1 (omega arith))
+returns c = sym (passed_all c.loop-k.invariant.1 (omega arith))

@@ -1,6 +1,6 @@
 use mathlib.Core.Path.{sym}
 use lib.Seq.{length-take-le}
-use Rattle.program.proofs.Within.{answer-within}
+use Rattle.program.proofs.Within.{answer_within}
 use borrow.Author.Rules.{rules}
 use Rattle.frame.proofs.main.Statement.{statement}
 use Rattle.frame.proofs.main.Tie as tie
@@ -39,10 +39,10 @@ answer-requires : tie.Need-answer-requires
 answer-requires c κs = search rules
 
 array-share-prefix-out : tie.Need-array-share-prefix-out
-array-share-prefix-out c = answer-within c.before.answer.ensures
+array-share-prefix-out c = answer_within c.before.answer.ensures
 
 slice-aggregate-write-answer : tie.Need-slice-aggregate-write-answer
-slice-aggregate-write-answer c = sym (length-take-le c.before.before.answer.result c.before.before.answer.new.1.1.0 (answer-within c.before.before.answer.ensures))
+slice-aggregate-write-answer c = sym (length-take-le c.before.before.answer.result c.before.before.answer.new.1.1.0 (answer_within c.before.before.answer.ensures))
 
 write-answer-requires : tie.Need-write-answer-requires
 write-answer-requires c κs = search rules

@@ -3,7 +3,7 @@ use Prim.Native.Nat.{◌-◌}
 use native.Mathlib.Omega.{arith}
 use borrow.Author.Rules.{rules}
 use borrow.Author.Tests.{le-leb, lt-leb}
-use Rattle.refusals.proofs.Judging.{passed_none, passed-more, passed-all, failed-at}
+use Rattle.refusals.proofs.Judging.{passed_none, passed_more, passed_all, failed_at}
 use Rattle.graphs.specs.Calls.{bytes_judged}
 use Rattle.graph.proofs.check_bits.Goals as goal
 
@@ -12,11 +12,11 @@ loop-at-init c = (search rules, passed_none)
 
 pub returns-then-bits-at-gt1 : goal.returns-then-bits-at-gt1
 unfolding bytes_judged
-returns-then-bits-at-gt1 c = sym (failed-at c.loop-at.invariant.1 (lt-leb _ _ c.if-bits-at-gt1.true) (omega arith))
+returns-then-bits-at-gt1 c = sym (failed_at c.loop-at.invariant.1 (lt-leb _ _ c.if-bits-at-gt1.true) (omega arith))
 
 pub loop-at-preserved : goal.loop-at-preserved
-loop-at-preserved c = (search rules, passed-more c.loop-at.invariant.1 (le-leb _ _ c.if-bits-at-gt1.false))
+loop-at-preserved c = (search rules, passed_more c.loop-at.invariant.1 (le-leb _ _ c.if-bits-at-gt1.false))
 
 pub returns : goal.returns
 unfolding bytes_judged
-returns c = sym (passed-all c.loop-at.invariant.1 (omega arith))
+returns c = sym (passed_all c.loop-at.invariant.1 (omega arith))

@@ -4,11 +4,11 @@ use native.Mathlib.Omega.{arith}
 use native.Mathlib.Numerals.{add-one}
 use borrow.Author.Rules.{rules}
 use Rattle.rules.specs.Graphs.{limits}
-use Rattle.refusals.proofs.Judging.{passed_none, passed-more, passed-all, failed-at}
+use Rattle.refusals.proofs.Judging.{passed_none, passed_more, passed_all, failed_at}
 use Rattle.words.specs.Roles.{graph_of}
 use Rattle.graphs.specs.Judging.{check_degrees_judged}
-use Rattle.graphs.proofs.Parts.{starts-told, check_test}
-use Rattle.shape.proofs.Loops.{check-test}
+use Rattle.graphs.proofs.Parts.{starts_told, check_test}
+use Rattle.shape.proofs.Loops.{check_test_lem}
 use Rattle.graph.proofs.check_degrees.Goals as goal
 
 pub loop-i-init : goal.loop-i-init
@@ -18,7 +18,7 @@ pub overflow_sub-start : goal.overflow_sub-start
 overflow_sub-start c =
     omega (
       arith,
-      (starts-told _ c.requires).rises c.loop-i.i
+      (starts_told _ c.requires).rises c.loop-i.i
           (omega arith),
       rw add-one at c.start.ensures.0,
     )
@@ -26,14 +26,14 @@ overflow_sub-start c =
 pub returns-then-not-in_range : goal.returns-then-not-in_range
 unfolding check_degrees_judged
 returns-then-not-in_range c =
-    let test : check_test limits ((graph_of c.args.n c.args.starts.now c.args.columns.now)) c.loop-i.i ≡ c.in_range.result = check-test limits ((graph_of c.args.n c.args.starts.now c.args.columns.now)) c.loop-i.i c.start-in-loop-i.ensures.0 c.start.ensures.0 c.in_range.ensures in
-    sym (failed-at c.loop-i.invariant.1 (test ∙ c.if-not-in_range.true) (omega arith))
+    let test : check_test limits ((graph_of c.args.n c.args.starts.now c.args.columns.now)) c.loop-i.i ≡ c.in_range.result = check_test_lem limits ((graph_of c.args.n c.args.starts.now c.args.columns.now)) c.loop-i.i c.start-in-loop-i.ensures.0 c.start.ensures.0 c.in_range.ensures in
+    sym (failed_at c.loop-i.invariant.1 (test ∙ c.if-not-in_range.true) (omega arith))
 
 pub loop-i-preserved : goal.loop-i-preserved
 loop-i-preserved c =
-    let test : check_test limits ((graph_of c.args.n c.args.starts.now c.args.columns.now)) c.loop-i.i ≡ c.in_range.result = check-test limits ((graph_of c.args.n c.args.starts.now c.args.columns.now)) c.loop-i.i c.start-in-loop-i.ensures.0 c.start.ensures.0 c.in_range.ensures in
-    (search rules, passed-more c.loop-i.invariant.1 (test ∙ c.if-not-in_range.false))
+    let test : check_test limits ((graph_of c.args.n c.args.starts.now c.args.columns.now)) c.loop-i.i ≡ c.in_range.result = check_test_lem limits ((graph_of c.args.n c.args.starts.now c.args.columns.now)) c.loop-i.i c.start-in-loop-i.ensures.0 c.start.ensures.0 c.in_range.ensures in
+    (search rules, passed_more c.loop-i.invariant.1 (test ∙ c.if-not-in_range.false))
 
 pub returns : goal.returns
 unfolding check_degrees_judged
-returns c = sym (passed-all c.loop-i.invariant.1 (omega arith))
+returns c = sym (passed_all c.loop-i.invariant.1 (omega arith))

@@ -5,7 +5,7 @@ use Rattle.settings.specs.declared.Parameters.{Parameters}
 use Rattle.decoding.specs.Decoding.{Frame, Memory, room_of, decode_finds}
 use Rattle.decoding.specs.Frames.{frame, memory}
 use Rattle.interface.specs.Packing.{asked_of, Small}
-use Rattle.interface.proofs.Smallness.{decoded-small, host-decodes, host-under}
+use Rattle.interface.proofs.Smallness.{decoded_small, host_decodes, host_under}
 use Rattle.host.proofs.frame_decode.Goals as goal
 
 pub pack_decoded-requires : goal.pack_decoded-requires
@@ -15,7 +15,7 @@ pack_decoded-requires c =
     let f : Frame = F c.scaling_of-scaling.result in
     let M : Memory = memory c.args.levels.now c.args.variable_messages.now c.args.check_messages.now c.args.sums.now c.args.bits.now in
     let d = length c.args.degrees.now in
-    subst Small (sym c.decode-d.ensures.answer) (decoded-small f d (room_of M) (decode_finds f d (room_of M)) refl)
+    subst Small (sym c.decode-d.ensures.answer) (decoded_small f d (room_of M) (decode_finds f d (room_of M)) refl)
 
 pub shape_of-degrees : goal.shape_of-degrees
 shape_of-degrees c = c.decode-d.auto.degrees
@@ -39,4 +39,4 @@ pub returns : goal.returns
 returns c =
     let asked : Scaling → Parameters = λ scaling. let a = c.args in asked_of scaling a.channel a.message a.phi_s a.phi_a a.phi_0 a.limit a.lift_from a.lift_to in
     let F : Scaling → Frame = λ scaling. frame c.args.n c.args.starts.now c.args.columns.now c.args.values.now (asked scaling) in
-    host-under F c.scaling_of-scaling.ensures (host-decodes c.decode-d.ensures c.pack_decoded.ensures)
+    host_under F c.scaling_of-scaling.ensures (host_decodes c.decode-d.ensures c.pack_decoded.ensures)

@@ -1,14 +1,14 @@
 use native.Mathlib.Omega.{arith}
-use Rattle.texts.proofs.Triples.{known-number, known-pair, triple-read}
+use Rattle.texts.proofs.Triples.{known_number, known_pair, triple_read}
 use Rattle.lines.proofs.known_field_at.Reads as known-field-at-reads
 use Rattle.lines.proofs.known_line_at.Reads as known-line-at-reads
 use Rattle.lines.proofs.known_three_at.Goals as goal
 
 pub known_field_at-a-requires : goal.known_field_at-a-requires
-known_field_at-a-requires c = (omega arith, known-number c.requires)
+known_field_at-a-requires c = (omega arith, known_number c.requires)
 
 pub known_line_at-b-requires : goal.known_line_at-b-requires
-known_line_at-b-requires c = known-pair c.requires c.known_field_at-a.ensures
+known_line_at-b-requires c = known_pair c.requires c.known_field_at-a.ensures
 
 pub returns : goal.returns
-returns c = triple-read c.known_field_at-a.ensures c.known_line_at-b.ensures
+returns c = triple_read c.known_field_at-a.ensures c.known_line_at-b.ensures

@@ -3,7 +3,7 @@ use native.Mathlib.Omega.{arith}
 use lib.ListN.{drop}
 use Rattle.texts.specs.Lines.{space, lf, pair, field}
 use Rattle.texts.specs.Places.{NumberAt}
-use Rattle.texts.proofs.Places.{line_first, line_second, line-both}
+use Rattle.texts.proofs.Places.{line_first, line_second, line_both}
 use Rattle.lines.proofs.line_at.Goals as goal
 
 pub returns-in_default : goal.returns-in_default
@@ -20,7 +20,7 @@ returns c =
     let b = subst (NumberAt (field lf) c.args.s.now c.in-Value.i) c.in-Value-b.is c.field_at-b.ensures in
     record {
       pair = pair a.number b.number;
-      reads = line-both (drop c.args.at c.args.s.now) a.reads b.reads;
+      reads = line_both (drop c.args.at c.args.s.now) a.reads b.reads;
       first = a.capped;
       second = b.capped;
       on = omega (arith, a.on, b.on);

@@ -1,14 +1,14 @@
 use Rattle.decoding.specs.Decoding.{Frame, Memory, graph}
 use Rattle.decoding.specs.Frames.{frame, memory}
-use Rattle.decoder.proofs.Deciding.{decode-ready, decode-room}
-use Rattle.pausing.proofs.Pausing.{long-told, begins-refused, begins-at}
+use Rattle.decoder.proofs.Deciding.{decode_ready, decode_room}
+use Rattle.pausing.proofs.Pausing.{long_told, begins_refused, begins_at}
 use Rattle.pausing.proofs.begin.Goals as goal
 
 pub begin_within-run-requires : goal.begin_within-run-requires
 begin_within-run-requires c =
     let F : Frame = frame c.args.n c.args.starts.now c.args.columns.now c.args.values.now c.args.asked in
     let M : Memory = let a = c.args in memory a.levels.now a.variable_messages.now a.check_messages.now a.sums.now a.bits.now in
-    record { ready = decode-ready F M c.accept-c.ensures c.in-Good.is; long = long-told (graph F) M (decode-room F M c.accept-c.ensures c.in-Good.is) }
+    record { ready = decode_ready F M c.accept-c.ensures c.in-Good.is; long = long_told (graph F) M (decode_room F M c.accept-c.ensures c.in-Good.is) }
 
 pub shape_of-degrees-in-Refused : goal.shape_of-degrees-in-Refused
 shape_of-degrees-in-Refused c = c.accept-c.auto.degrees
@@ -17,7 +17,7 @@ pub returns-in-Refused : goal.returns-in-Refused
 returns-in-Refused c =
     let F : Frame = frame c.args.n c.args.starts.now c.args.columns.now c.args.values.now c.args.asked in
     let M : Memory = let a = c.args in memory a.levels.now a.variable_messages.now a.check_messages.now a.sums.now a.bits.now in
-    begins-refused F M c.accept-c.ensures c.in-Refused.is
+    begins_refused F M c.accept-c.ensures c.in-Refused.is
 
 pub shape_of-degrees-in-Good : goal.shape_of-degrees-in-Good
 shape_of-degrees-in-Good c = c.accept-c.auto.degrees
@@ -41,4 +41,4 @@ pub returns-in-Good : goal.returns-in-Good
 returns-in-Good c =
     let F : Frame = frame c.args.n c.args.starts.now c.args.columns.now c.args.values.now c.args.asked in
     let M : Memory = let a = c.args in memory a.levels.now a.variable_messages.now a.check_messages.now a.sums.now a.bits.now in
-    begins-at F M c.accept-c.ensures c.in-Good.is c.begin_within-run.ensures
+    begins_at F M c.accept-c.ensures c.in-Good.is c.begin_within-run.ensures

@@ -5,7 +5,7 @@ use mir.Syntax.{w32}
 use mir.Val.{of_z}
 use mir.ValLaws.{to_z-of_z}
 use Rattle.rules.specs.Nodes.{contribution, extra}
-use Rattle.words.proofs.Filling.{filled_none, filled_more, filled-all}
+use Rattle.words.proofs.Filling.{filled_none, filled_more, filled_all}
 use Rattle.nodes.specs.Memory.{level_in}
 use Rattle.posterior.proofs.channel_parts.Invariants.{made}
 use Rattle.posterior.proofs.channel_parts.Goals as goal
@@ -28,4 +28,4 @@ pub shape_of-sums : goal.shape_of-sums
 shape_of-sums c = c.loop-v.invariant.1.long
 
 pub returns : goal.returns
-returns c = filled-all (omega arith) (omega arith) c.loop-v.invariant.1
+returns c = filled_all (omega arith) (omega arith) c.loop-v.invariant.1

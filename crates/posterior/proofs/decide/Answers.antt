@@ -7,7 +7,7 @@ use mir.ValLaws.{to_z-of_z}
 use Rattle.rules.specs.Ranges.{one}
 use Rattle.rules.specs.Levels.{level_of}
 use Rattle.rules.specs.Nodes.{bit_of}
-use Rattle.rules.proofs.Filling.{filled_none, filled_more, filled-all}
+use Rattle.rules.proofs.Filling.{filled_none, filled_more, filled_all}
 use Rattle.nodes.specs.Memory.{level_in}
 use Rattle.posterior.proofs.decide.Goals as goal
 
@@ -23,4 +23,4 @@ loop-v-preserved c = (
 )
 
 pub returns : goal.returns
-returns c = filled-all (omega arith) (omega arith) c.loop-v.invariant.1
+returns c = filled_all (omega arith) (omega arith) c.loop-v.invariant.1

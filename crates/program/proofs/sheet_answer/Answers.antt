@@ -3,63 +3,63 @@ use Prim.Native.Nat.{◌+◌, ◌*◌}
 use lib.ListN.{length, take}
 use lib.Seq.{length-take-le}
 use Rattle.words.specs.Roles.{wide}
-use Rattle.graphs.proofs.Parts.{counts-admitted}
-use Rattle.printing.proofs.Parts.{prints-as}
-use Rattle.program.proofs.Inputs.{GraphIn, sheet-refused, sheet-graph}
+use Rattle.graphs.proofs.Parts.{counts_admitted}
+use Rattle.printing.proofs.Parts.{prints_as}
+use Rattle.program.proofs.Inputs.{GraphIn, sheet_refused, sheet_graph}
 use native.Mathlib.Omega.{arith}
 use Rattle.program.proofs.sheet_answer.Goals as goal
 
 pub overflow_add-s : goal.overflow_add-s
 overflow_add-s c =
-    let graph-read : GraphIn c.args.sheet.now c.in-Read.counts c.read_within-x.new.starts c.read_within-x.new.columns = sheet-graph c.args.sheet.now c.read_within-x.ensures (omega arith) (omega arith) (omega arith) c.in-Read.is in
-    omega (arith, graph-read.checks)
+    let graph_read : GraphIn c.args.sheet.now c.in-Read.counts c.read_within-x.new.starts c.read_within-x.new.columns = sheet_graph c.args.sheet.now c.read_within-x.ensures (omega arith) (omega arith) (omega arith) c.in-Read.is in
+    omega (arith, graph_read.checks)
 
 pub overflow_mul-s : goal.overflow_mul-s
 overflow_mul-s c =
-    let graph-read : GraphIn c.args.sheet.now c.in-Read.counts c.read_within-x.new.starts c.read_within-x.new.columns = sheet-graph c.args.sheet.now c.read_within-x.ensures (omega arith) (omega arith) (omega arith) c.in-Read.is in
-    omega (arith, graph-read.checks)
+    let graph_read : GraphIn c.args.sheet.now c.in-Read.counts c.read_within-x.new.starts c.read_within-x.new.columns = sheet_graph c.args.sheet.now c.read_within-x.ensures (omega arith) (omega arith) (omega arith) c.in-Read.is in
+    omega (arith, graph_read.checks)
 
 pub overflow_mul-c : goal.overflow_mul-c
 overflow_mul-c c =
-    let graph-read : GraphIn c.args.sheet.now c.in-Read.counts c.read_within-x.new.starts c.read_within-x.new.columns = sheet-graph c.args.sheet.now c.read_within-x.ensures (omega arith) (omega arith) (omega arith) c.in-Read.is in
-    omega (arith, graph-read.entries)
+    let graph_read : GraphIn c.args.sheet.now c.in-Read.counts c.read_within-x.new.starts c.read_within-x.new.columns = sheet_graph c.args.sheet.now c.read_within-x.ensures (omega arith) (omega arith) (omega arith) c.in-Read.is in
+    omega (arith, graph_read.entries)
 
 pub slice_bounds-starts-end : goal.slice_bounds-starts-end
 slice_bounds-starts-end c =
-    let graph-read : GraphIn c.args.sheet.now c.in-Read.counts c.read_within-x.new.starts c.read_within-x.new.columns = sheet-graph c.args.sheet.now c.read_within-x.ensures (omega arith) (omega arith) (omega arith) c.in-Read.is in
-    omega (arith, graph-read.checks, c.starts-2-1.given)
+    let graph_read : GraphIn c.args.sheet.now c.in-Read.counts c.read_within-x.new.starts c.read_within-x.new.columns = sheet_graph c.args.sheet.now c.read_within-x.ensures (omega arith) (omega arith) (omega arith) c.in-Read.is in
+    omega (arith, graph_read.checks, c.starts-2-1.given)
 
 pub slice_bounds-run_answer-end : goal.slice_bounds-run_answer-end
 slice_bounds-run_answer-end c =
-    let graph-read : GraphIn c.args.sheet.now c.in-Read.counts c.read_within-x.new.starts c.read_within-x.new.columns = sheet-graph c.args.sheet.now c.read_within-x.ensures (omega arith) (omega arith) (omega arith) c.in-Read.is in
-    let starts-long : length (take (wide * (c.in-Read.counts.checks + 1)) c.read_within-x.new.starts) ≡ wide * (c.in-Read.counts.checks + 1) = length-take-le (wide * (c.in-Read.counts.checks + 1)) c.read_within-x.new.starts (omega (arith, graph-read.checks, c.starts-2-1.given)) in
-    sym starts-long
+    let graph_read : GraphIn c.args.sheet.now c.in-Read.counts c.read_within-x.new.starts c.read_within-x.new.columns = sheet_graph c.args.sheet.now c.read_within-x.ensures (omega arith) (omega arith) (omega arith) c.in-Read.is in
+    let starts_long : length (take (wide * (c.in-Read.counts.checks + 1)) c.read_within-x.new.starts) ≡ wide * (c.in-Read.counts.checks + 1) = length-take-le (wide * (c.in-Read.counts.checks + 1)) c.read_within-x.new.starts (omega (arith, graph_read.checks, c.starts-2-1.given)) in
+    sym starts_long
 
 pub slice_bounds-columns-end : goal.slice_bounds-columns-end
 slice_bounds-columns-end c =
-    let graph-read : GraphIn c.args.sheet.now c.in-Read.counts c.read_within-x.new.starts c.read_within-x.new.columns = sheet-graph c.args.sheet.now c.read_within-x.ensures (omega arith) (omega arith) (omega arith) c.in-Read.is in
-    omega (arith, graph-read.entries, c.columns-2-1.given)
+    let graph_read : GraphIn c.args.sheet.now c.in-Read.counts c.read_within-x.new.starts c.read_within-x.new.columns = sheet_graph c.args.sheet.now c.read_within-x.ensures (omega arith) (omega arith) (omega arith) c.in-Read.is in
+    omega (arith, graph_read.entries, c.columns-2-1.given)
 
 pub slice_bounds-run_answer-end-in-Read : goal.slice_bounds-run_answer-end-in-Read
 slice_bounds-run_answer-end-in-Read c =
-    let graph-read : GraphIn c.args.sheet.now c.in-Read.counts c.read_within-x.new.starts c.read_within-x.new.columns = sheet-graph c.args.sheet.now c.read_within-x.ensures (omega arith) (omega arith) (omega arith) c.in-Read.is in
-    let columns-long : length (take (wide * c.in-Read.counts.entries) c.read_within-x.new.columns) ≡ wide * c.in-Read.counts.entries = length-take-le (wide * c.in-Read.counts.entries) c.read_within-x.new.columns (omega (arith, graph-read.entries, c.columns-2-1.given)) in
-    sym columns-long
+    let graph_read : GraphIn c.args.sheet.now c.in-Read.counts c.read_within-x.new.starts c.read_within-x.new.columns = sheet_graph c.args.sheet.now c.read_within-x.ensures (omega arith) (omega arith) (omega arith) c.in-Read.is in
+    let columns_long : length (take (wide * c.in-Read.counts.entries) c.read_within-x.new.columns) ≡ wide * c.in-Read.counts.entries = length-take-le (wide * c.in-Read.counts.entries) c.read_within-x.new.columns (omega (arith, graph_read.entries, c.columns-2-1.given)) in
+    sym columns_long
 
 pub run_answer-requires : goal.run_answer-requires
 run_answer-requires c =
-    let graph-read : GraphIn c.args.sheet.now c.in-Read.counts c.read_within-x.new.starts c.read_within-x.new.columns = sheet-graph c.args.sheet.now c.read_within-x.ensures (omega arith) (omega arith) (omega arith) c.in-Read.is in
-    let starts-long : length (take (wide * (c.in-Read.counts.checks + 1)) c.read_within-x.new.starts) ≡ wide * (c.in-Read.counts.checks + 1) = length-take-le (wide * (c.in-Read.counts.checks + 1)) c.read_within-x.new.starts (omega (arith, graph-read.checks, c.starts-2-1.given)) in
-    let columns-long : length (take (wide * c.in-Read.counts.entries) c.read_within-x.new.columns) ≡ wide * c.in-Read.counts.entries = length-take-le (wide * c.in-Read.counts.entries) c.read_within-x.new.columns (omega (arith, graph-read.entries, c.columns-2-1.given)) in
-    let g = graph-read in
-    let starts = starts-long in
-    let columns = columns-long in
-    (counts-admitted _ (record { variables = g.variables; checks = (omega (arith, g.checks.0, starts), omega (arith, g.checks.1, starts)); entries = omega (arith, g.entries, columns) }), omega arith)
+    let graph_read : GraphIn c.args.sheet.now c.in-Read.counts c.read_within-x.new.starts c.read_within-x.new.columns = sheet_graph c.args.sheet.now c.read_within-x.ensures (omega arith) (omega arith) (omega arith) c.in-Read.is in
+    let starts_long : length (take (wide * (c.in-Read.counts.checks + 1)) c.read_within-x.new.starts) ≡ wide * (c.in-Read.counts.checks + 1) = length-take-le (wide * (c.in-Read.counts.checks + 1)) c.read_within-x.new.starts (omega (arith, graph_read.checks, c.starts-2-1.given)) in
+    let columns_long : length (take (wide * c.in-Read.counts.entries) c.read_within-x.new.columns) ≡ wide * c.in-Read.counts.entries = length-take-le (wide * c.in-Read.counts.entries) c.read_within-x.new.columns (omega (arith, graph_read.entries, c.columns-2-1.given)) in
+    let g = graph_read in
+    let starts = starts_long in
+    let columns = columns_long in
+    (counts_admitted _ (record { variables = g.variables; checks = (omega (arith, g.checks.0, starts), omega (arith, g.checks.1, starts)); entries = omega (arith, g.entries, columns) }), omega arith)
 
 pub returns-in-Refused : goal.returns-in-Refused
-returns-in-Refused c = let s = c.args in prints-as (sheet-refused s.sheet.now c.read_within-x.ensures (omega arith) (omega arith) (omega arith) c.in-Refused.is s.run.now) c.put_refusal.ensures
+returns-in-Refused c = let s = c.args in prints_as (sheet_refused s.sheet.now c.read_within-x.ensures (omega arith) (omega arith) (omega arith) c.in-Refused.is s.run.now) c.put_refusal.ensures
 
 pub returns-in-Read : goal.returns-in-Read
 returns-in-Read c =
-    let graph-read : GraphIn c.args.sheet.now c.in-Read.counts c.read_within-x.new.starts c.read_within-x.new.columns = sheet-graph c.args.sheet.now c.read_within-x.ensures (omega arith) (omega arith) (omega arith) c.in-Read.is in
-    prints-as (graph-read.text c.args.run.now) c.run_answer.ensures
+    let graph_read : GraphIn c.args.sheet.now c.in-Read.counts c.read_within-x.new.starts c.read_within-x.new.columns = sheet_graph c.args.sheet.now c.read_within-x.ensures (omega arith) (omega arith) (omega arith) c.in-Read.is in
+    prints_as (graph_read.text c.args.run.now) c.run_answer.ensures

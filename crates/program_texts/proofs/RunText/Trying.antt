@@ -9,6 +9,6 @@ use Rattle.program_texts.specs.RunText.Texts.{hex_digit, hex_digits, pattern, se
 use Rattle.program_texts.specs.RunText.Reading.{value_lines, run_lines, run_text}
 use Rattle.program_texts.specs.RunText.Trials.{trials, told, passes, TrialsPass}
 
-pub trials-pass : TrialsPass
+pub trials_pass : TrialsPass
 unfolding of_bits to_bits more number field fixed bytes hex_digit hex_digits pattern setting titles scaling settings settings_line value_lines run_lines run_text trials told passes failures
-trials-pass = refl
+trials_pass = refl

@@ -2,7 +2,7 @@ use mathlib.Core.Path.{ap, ◌∙◌}
 use Prim.Native.Nat.{◌-◌, min}
 use native.Mathlib.Omega.{arith}
 use Rattle.rules.specs.Levels.{byte}
-use Rattle.rules.proofs.Filling.{filled_none, filled_more, filled-end}
+use Rattle.rules.proofs.Filling.{filled_none, filled_more, filled_end}
 use Rattle.settings.specs.Quantiser.{level_for}
 use Rattle.quantiser.proofs.quantise.Goals as goal
 
@@ -27,4 +27,4 @@ pub shape_of-levels : goal.shape_of-levels
 shape_of-levels c = c.loop-v.invariant.1.long
 
 pub returns : goal.returns
-returns c = filled-end (omega (arith, c.smaller-n.ensures)) c.loop-v.invariant.1
+returns c = filled_end (omega (arith, c.smaller-n.ensures)) c.loop-v.invariant.1

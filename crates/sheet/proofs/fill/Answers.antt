@@ -3,7 +3,7 @@ use Prim.Native.Nat.{◌-◌}
 use native.Mathlib.Omega.{arith}
 use lib.ListN.{length}
 use Rattle.words.specs.Roles.{wide}
-use Rattle.words.proofs.Words.{length-stored}
+use Rattle.words.proofs.Words.{length_stored}
 use Rattle.words.proofs.Filling.{Filled, filled_more}
 use Rattle.sheet.proofs.fill.Goals as goal
 
@@ -17,7 +17,7 @@ pub loop-i-preserved : goal.loop-i-preserved
 loop-i-preserved c = (
   omega arith,
   omega arith,
-  ap length c.put_start.ensures ∙ length-stored wide _ _ _ ∙ c.loop-i.invariant.2,
+  ap length c.put_start.ensures ∙ length_stored wide _ _ _ ∙ c.loop-i.invariant.2,
   λ f old h g. filled_more (omega (arith, h.long)) (c.loop-i.invariant.3 f old h g) c.put_start.ensures (g c.loop-i.i (omega arith) (omega arith)),
 )
 

@@ -1,7 +1,7 @@
 use mathlib.Core.Path.{subst}
 use Rattle.code_sheets.specs.Text.Reading.{sheet_lines}
 use Rattle.code_sheets.specs.Text.Scanning.{within, ScannedAs}
-use Rattle.code_sheets.proofs.Reader.Calls.{lines-judged, entries_at, judged-into}
+use Rattle.code_sheets.proofs.Reader.Calls.{lines_judged_lem, entries_at, judged_into}
 use Rattle.sheet.proofs.judge_within.Goals as goal
 
 pub judge_lines-requires : goal.judge_lines-requires
@@ -12,9 +12,9 @@ judge_lines-requires c =
 pub returns-in-Refused : goal.returns-in-Refused
 returns-in-Refused c =
     let a = c.args in
-    lines-judged {L = within a.most} {t = a.text.now} (subst (ScannedAs (within a.most) a.text.now (sheet_lines (within a.most) a.text.now)) c.in-Refused.is c.scan-scanned.ensures)
+    lines_judged_lem {L = within a.most} {t = a.text.now} (subst (ScannedAs (within a.most) a.text.now (sheet_lines (within a.most) a.text.now)) c.in-Refused.is c.scan-scanned.ensures)
 
 pub returns-in-Lines : goal.returns-in-Lines
 returns-in-Lines c =
     let a = c.args in
-    judged-into c.requires (subst (ScannedAs (within a.most) a.text.now (sheet_lines (within a.most) a.text.now)) c.in-Lines.is c.scan-scanned.ensures) c.judge_lines.ensures
+    judged_into c.requires (subst (ScannedAs (within a.most) a.text.now (sheet_lines (within a.most) a.text.now)) c.in-Lines.is c.scan-scanned.ensures) c.judge_lines.ensures

@@ -3,25 +3,25 @@ use Prim.Native.Nat.{◌+◌, ◌-◌}
 use native.Mathlib.Omega.{arith}
 use Rattle.texts.specs.Lines.{pair}
 use Rattle.texts.specs.Places.{LineAt}
-use Rattle.texts.proofs.Passes.{Scanning, scanning-none, scanning-end, scanning-many, scanning-other, scanning-refused, scanning-more}
+use Rattle.texts.proofs.Passes.{Scanning, scanning_none, scanning_end, scanning_many, scanning_other, scanning_refused, scanning_more}
 use Rattle.code_sheets.specs.Text.Reading.{sheet_entries}
-use Rattle.code_sheets.proofs.Text.Passes.{capped-entry, after-capped}
+use Rattle.code_sheets.proofs.Text.Passes.{capped_entry, after_capped}
 use Rattle.sheet_text.proofs.scan_entries.Goals as goal
 
 pub loop-at-init : goal.loop-at-init
-loop-at-init c = (omega arith, scanning-none sheet_entries c.args.most.entries (pair c.args.n c.args.m) c.args.text.now c.args.from c.requires.from_in_bounds.0)
+loop-at-init c = (omega arith, scanning_none sheet_entries c.args.most.entries (pair c.args.n c.args.m) c.args.text.now c.args.from c.requires.from_in_bounds.0)
 
 pub overflow_add-result : goal.overflow_add-result
 overflow_add-result c = omega (arith, c.requires.up_to.entries)
 
 pub returns-then-most-k : goal.returns-then-most-k
-returns-then-most-k c = scanning-many c.loop-at.invariant.1 (omega arith) (omega arith)
+returns-then-most-k c = scanning_many c.loop-at.invariant.1 (omega arith) (omega arith)
 
 pub overflow_add-result-in_default : goal.overflow_add-result-in_default
 overflow_add-result-in_default c = omega (arith, c.requires.up_to.entries)
 
 pub returns-in_default : goal.returns-in_default
-returns-in_default c = scanning-other c.loop-at.invariant.1 (omega arith) (omega arith) (subst (LineAt c.args.text.now c.loop-at.at) c.in_default.is c.line_at-line.ensures)
+returns-in_default c = scanning_other c.loop-at.invariant.1 (omega arith) (omega arith) (subst (LineAt c.args.text.now c.loop-at.at) c.in_default.is c.line_at-line.ensures)
 
 pub overflow_add-k : goal.overflow_add-k
 overflow_add-k c = omega (arith, c.requires.up_to.entries)
@@ -29,8 +29,8 @@ overflow_add-k c = omega (arith, c.requires.up_to.entries)
 pub returns-in-Refused : goal.returns-in-Refused
 returns-in-Refused c =
     let r = subst (LineAt c.args.text.now c.loop-at.at) c.in-Two.is c.line_at-line.ensures in
-    scanning-refused c.loop-at.invariant.1 (omega arith) (omega arith) r.pair c.in-Two.next r.reads
-    (sym (capped-entry (pair c.args.n c.args.m) (pair c.loop-at.c0 c.loop-at.w0) (c.loop-at.k + 4) r.pair c.in-Two.c c.in-Two.v (omega (arith, c.requires.up_to.variables)) (omega (arith, c.requires.up_to.checks)) r.first r.second) ∙ sym c.judge_entry-j.ensures ∙ c.in-Refused.is)
+    scanning_refused c.loop-at.invariant.1 (omega arith) (omega arith) r.pair c.in-Two.next r.reads
+    (sym (capped_entry (pair c.args.n c.args.m) (pair c.loop-at.c0 c.loop-at.w0) (c.loop-at.k + 4) r.pair c.in-Two.c c.in-Two.v (omega (arith, c.requires.up_to.variables)) (omega (arith, c.requires.up_to.checks)) r.first r.second) ∙ sym c.judge_entry-j.ensures ∙ c.in-Refused.is)
 
 pub overflow_add-w0 : goal.overflow_add-w0
 overflow_add-w0 c =
@@ -50,14 +50,14 @@ loop-at-preserved c =
     let r = subst (LineAt c.args.text.now c.loop-at.at) c.in-Two.is c.line_at-line.ensures in
     let counts = pair c.args.n c.args.m in
     let low = pair c.loop-at.c0 c.loop-at.w0 in
-    let judged = sym (capped-entry (pair c.args.n c.args.m) (pair c.loop-at.c0 c.loop-at.w0) (c.loop-at.k + 4) r.pair c.in-Two.c c.in-Two.v (omega (arith, c.requires.up_to.variables)) (omega (arith, c.requires.up_to.checks)) r.first r.second) ∙ sym c.judge_entry-j.ensures ∙ c.in_default-j.is in (
+    let judged = sym (capped_entry (pair c.args.n c.args.m) (pair c.loop-at.c0 c.loop-at.w0) (c.loop-at.k + 4) r.pair c.in-Two.c c.in-Two.v (omega (arith, c.requires.up_to.variables)) (omega (arith, c.requires.up_to.checks)) r.first r.second) ∙ sym c.judge_entry-j.ensures ∙ c.in_default-j.is in (
       omega arith,
       subst (Scanning sheet_entries c.args.most.entries counts c.args.text.now c.args.from c.in-Two.next (c.loop-at.k + 1))
-          (after-capped counts low (c.loop-at.k + 4) r.pair c.in-Two.c c.in-Two.v (omega (arith, c.requires.up_to.variables)) (omega (arith, c.requires.up_to.checks)) r.first r.second judged)
-          (scanning-more c.loop-at.invariant.1 (omega arith) (omega arith) r.pair c.in-Two.next r.reads r.within judged),
+          (after_capped counts low (c.loop-at.k + 4) r.pair c.in-Two.c c.in-Two.v (omega (arith, c.requires.up_to.variables)) (omega (arith, c.requires.up_to.checks)) r.first r.second judged)
+          (scanning_more c.loop-at.invariant.1 (omega arith) (omega arith) r.pair c.in-Two.next r.reads r.within judged),
     )
 
 pub returns : goal.returns
 returns c =
     let q = c.loop-at.invariant.1 in
-    record { entries = q.done; are = scanning-end q (omega arith); many = q.got; rest = scanning-end q (omega arith) }
+    record { entries = q.done; are = scanning_end q (omega arith); many = q.got; rest = scanning_end q (omega arith) }

@@ -1,9 +1,9 @@
 use native.Mathlib.Omega.{arith}
-use Rattle.texts.proofs.Putting.{one-digit, more-digits, word-short}
+use Rattle.texts.proofs.Putting.{one_digit, more_digits, word_short}
 use Rattle.sheet_writer.proofs.count_digits.Goals as goal
 
 pub loop-left-preserved : goal.loop-left-preserved
-loop-left-preserved c = omega (arith, more-digits c.loop-left.left (omega arith))
+loop-left-preserved c = omega (arith, more_digits c.loop-left.left (omega arith))
 
 pub returns : goal.returns
-returns c = omega (arith, one-digit c.loop-left.left (omega arith), word-short c.args.k (omega arith))
+returns c = omega (arith, one_digit c.loop-left.left (omega arith), word_short c.args.k (omega arith))

@@ -1,10 +1,10 @@
 use mathlib.Core.Path.{sym}
 use native.Mathlib.Omega.{arith}
-use Rattle.texts.proofs.Putting.{one-digit, digits_are}
+use Rattle.texts.proofs.Putting.{one_digit, digits_are}
 use Rattle.sheet_writer.proofs.digits.Goals as goal
 
 pub returns-then-k-lt10 : goal.returns-then-k-lt10
-returns-then-k-lt10 c = (sym (one-digit c.args.k c.if-k-lt10.true), omega arith)
+returns-then-k-lt10 c = (sym (one_digit c.args.k c.if-k-lt10.true), omega arith)
 
 pub returns-then-k-lt100 : goal.returns-then-k-lt100
 returns-then-k-lt100 c = (digits_are 1 c.args.k (omega arith) (omega arith), omega arith)

@@ -1,6 +1,6 @@
 use native.Mathlib.Omega.{arith}
-use Rattle.code_sheets.proofs.Writer.Texts.{line-long}
+use Rattle.code_sheets.proofs.Writer.Texts.{line_long}
 use Rattle.sheet_writer.proofs.line_length.Goals as goal
 
 pub returns : goal.returns
-returns c = omega (arith, line-long c.args.a c.args.b)
+returns c = omega (arith, line_long c.args.a c.args.b)

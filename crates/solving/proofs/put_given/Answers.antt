@@ -2,11 +2,11 @@ use mathlib.Core.Path.{refl}
 use Prim.Native.Nat.{◌-◌}
 use native.Mathlib.Omega.{arith}
 use borrow.Author.Rules.{rules}
-use Rattle.solving.proofs.Answering.{begun-none, begun_more, begun_all}
+use Rattle.solving.proofs.Answering.{begun_none, begun_more, begun_all}
 use Rattle.solving.proofs.put_given.Goals as goal
 
 pub loop-k-init : goal.loop-k-init
-loop-k-init c = (search rules, begun-none c.requires.1)
+loop-k-init c = (search rules, begun_none c.requires.1)
 
 pub bounds-given-k : goal.bounds-given-k
 bounds-given-k c = omega (arith, c.requires.2.many)

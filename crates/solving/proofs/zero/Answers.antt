@@ -3,7 +3,7 @@ use Prim.Native.Nat.{◌-◌}
 use native.Mathlib.Omega.{arith}
 use borrow.Author.Rules.{rules}
 use lib.ListN.{length-set}
-use Rattle.rules.proofs.Filling.{filled_none, filled_more, filled-all}
+use Rattle.rules.proofs.Filling.{filled_none, filled_more, filled_all}
 use Rattle.solving.proofs.zero.Goals as goal
 
 pub loop-i-init : goal.loop-i-init
@@ -23,4 +23,4 @@ shape_of-l c = c.loop-i.invariant.1.long
 pub returns : goal.returns
 returns c =
     let turn = c.loop-i in
-    filled-all (omega (arith, turn.invariant.1.long)) refl turn.invariant.1
+    filled_all (omega (arith, turn.invariant.1.long)) refl turn.invariant.1

@@ -1,5 +1,5 @@
 use native.Mathlib.Omega.{arith}
-use Rattle.steps.proofs.Stepping.{part_small, part_length, summed-is}
+use Rattle.steps.proofs.Stepping.{part_small, part_length, summed_is}
 use Rattle.steps.proofs.add_up.Goals as goal
 
 pub add_messages-requires : goal.add_messages-requires
@@ -12,4 +12,4 @@ pub returns : goal.returns
 returns c =
     let a = c.args in
     let z = c.requires.0 in
-    summed-is a.n a.starts.now a.columns.now z.admitted z c.channel_parts.ensures a.parts.now c.add_messages.ensures
+    summed_is a.n a.starts.now a.columns.now z.admitted z c.channel_parts.ensures a.parts.now c.add_messages.ensures

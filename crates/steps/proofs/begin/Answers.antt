@@ -4,7 +4,7 @@ use native.Mathlib.Omega.{arith}
 use lib.ListN.{length}
 use Rattle.words.specs.Roles.{wide}
 use Rattle.rules.specs.Ranges.{tabulate}
-use Rattle.settings.proofs.Magnitudes.{quantised-all}
+use Rattle.settings.proofs.Magnitudes.{quantised_all}
 use Rattle.steps.proofs.begin.Goals as goal
 
 pub first_messages-requires : goal.first_messages-requires
@@ -14,7 +14,7 @@ pub returns : goal.returns
 returns c =
     let h : length c.args.variable_messages.now ≡ length c.args.columns.now / wide = omega arith in
     record {
-      levels = c.quantise.ensures ∙ quantised-all c.args.channel_most c.args.factor c.args.values.now c.args.levels.now (omega arith) (omega arith);
+      levels = c.quantise.ensures ∙ quantised_all c.args.channel_most c.args.factor c.args.values.now c.args.levels.now (omega arith) (omega arith);
       variable_messages = c.first_messages.ensures ∙ ap (tabulate _) h;
       check_messages = c.clear.ensures;
       sums = c.clear-2.ensures;

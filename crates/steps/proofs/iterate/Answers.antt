@@ -1,5 +1,5 @@
 use native.Mathlib.Omega.{arith}
-use Rattle.steps.proofs.Stepping.{rows_of, iterated-is, summed-with}
+use Rattle.steps.proofs.Stepping.{rows_of, iterated_is, summed_with}
 use Rattle.steps.proofs.iterate.Goals as goal
 
 pub check_nodes-requires : goal.check_nodes-requires
@@ -9,7 +9,7 @@ check_nodes-requires c =
     (rows_of a.n a.starts.now a.columns.now z.summed.admitted _ z.variable_messages, omega (arith, z.variable_messages, z.summed.check_messages))
 
 pub add_up-requires : goal.add_up-requires
-add_up-requires c = (summed-with c.requires.0.summed c.check_nodes.auto.outgoing, c.requires.1)
+add_up-requires c = (summed_with c.requires.0.summed c.check_nodes.auto.outgoing, c.requires.1)
 
 pub decide-requires : goal.decide-requires
 decide-requires c = let z = c.requires.0 in omega (arith, z.summed.sums, z.summed.levels, z.bits, c.add_up.auto.sums)
@@ -18,4 +18,4 @@ pub returns : goal.returns
 returns c =
     let a = c.args in
     let z = c.requires.0 in
-    iterated-is a.n a.starts.now a.columns.now z.summed.admitted z c.requires.1 c.check_nodes.ensures c.add_up.ensures c.decide.ensures
+    iterated_is a.n a.starts.now a.columns.now z.summed.admitted z c.requires.1 c.check_nodes.ensures c.add_up.ensures c.decide.ensures

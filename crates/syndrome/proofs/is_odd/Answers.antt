@@ -3,13 +3,13 @@ use Prim.Native.Nat.{◌+◌, ◌-◌}
 use native.Mathlib.Omega.{arith}
 use borrow.Author.Rules.{rules}
 use Rattle.rules.specs.Ranges.{fold}
-use Rattle.rules.proofs.Ranges.{fold-none}
+use Rattle.rules.proofs.Ranges.{fold_none}
 use Rattle.words.specs.Roles.{bit_of_byte}
-use Rattle.syndrome.proofs.Loops.{odd-more}
+use Rattle.syndrome.proofs.Loops.{odd_more}
 use Rattle.syndrome.proofs.is_odd.Goals as goal
 
 pub loop-k-init : goal.loop-k-init
-loop-k-init c = (search rules, sym (fold-none _ _ _ _))
+loop-k-init c = (search rules, sym (fold_none _ _ _ _))
 
 pub bounds-bits-column : goal.bounds-bits-column
 bounds-bits-column c =
@@ -22,7 +22,7 @@ bounds-bits-column c =
 pub loop-k-preserved : goal.loop-k-preserved
 loop-k-preserved c = (
   search rules,
-  odd-more _ _ _ c.loop-k.invariant.1
+  odd_more _ _ _ c.loop-k.invariant.1
       (ap (bit_of_byte c.args.bits.now) c.column.ensures.0),
 )
 

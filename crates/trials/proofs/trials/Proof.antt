@@ -87,8 +87,8 @@ loop-again c =
 returns-3 : tie.Need-returns-3 invariant-loop decreases-loop
 returns-3 c = search rules
 
-pub trials-spec : {M : Type 1} → statement M
-trials-spec =
+pub trials_spec : {M : Type 1} → statement M
+trials_spec =
     tie.close
     (tie.spec
     invariant-loop

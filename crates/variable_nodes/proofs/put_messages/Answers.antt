@@ -1,6 +1,6 @@
 use Prim.Native.Nat.{◌-◌}
 use native.Mathlib.Omega.{arith}
-use Rattle.rules.proofs.Filling.{filled_none, filled_more, filled-all}
+use Rattle.rules.proofs.Filling.{filled_none, filled_more, filled_all}
 use Rattle.variable_nodes.proofs.put_messages.Goals as goal
 
 pub loop-k-init : goal.loop-k-init
@@ -13,4 +13,4 @@ pub shape_of-messages : goal.shape_of-messages
 shape_of-messages c = c.loop-k.invariant.1.long
 
 pub returns : goal.returns
-returns c = filled-all (omega arith) (omega arith) c.loop-k.invariant.1
+returns c = filled_all (omega arith) (omega arith) c.loop-k.invariant.1

@@ -1,7 +1,7 @@
 use mathlib.Core.Path.{refl}
 use Prim.Native.Nat.{◌-◌}
 use native.Mathlib.Omega.{arith}
-use Rattle.rules.proofs.Filling.{filled_none, filled_more, filled-all}
+use Rattle.rules.proofs.Filling.{filled_none, filled_more, filled_all}
 use Rattle.check_nodes.proofs.first.clear.Goals as goal
 
 pub loop-k-init : goal.loop-k-init
@@ -11,4 +11,4 @@ pub loop-k-preserved : goal.loop-k-preserved
 loop-k-preserved c = (omega arith, filled_more (omega arith) c.loop-k.invariant.1 refl)
 
 pub returns : goal.returns
-returns c = filled-all (omega arith) refl c.loop-k.invariant.1
+returns c = filled_all (omega arith) refl c.loop-k.invariant.1

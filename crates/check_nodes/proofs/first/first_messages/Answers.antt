@@ -3,7 +3,7 @@ use Prim.Native.Nat.{ℕ, ◌-◌, min}
 use native.Mathlib.Omega.{arith}
 use Rattle.rules.specs.Levels.{byte}
 use Rattle.rules.specs.Nodes.{first_message}
-use Rattle.rules.proofs.Filling.{filled_none, filled_more, filled-all}
+use Rattle.rules.proofs.Filling.{filled_none, filled_more, filled_all}
 use Rattle.nodes.specs.Memory.{level_in}
 use Rattle.check_nodes.proofs.first.first_messages.Goals as goal
 
@@ -22,4 +22,4 @@ loop-e-preserved c = (
 )
 
 pub returns : goal.returns
-returns c = filled-all (omega arith) (omega arith) c.loop-e.invariant.1
+returns c = filled_all (omega arith) (omega arith) c.loop-e.invariant.1

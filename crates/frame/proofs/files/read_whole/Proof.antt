@@ -79,8 +79,8 @@ same-length-3 c = search rules
 returns-3 : tie.Need-returns-3 invariant-loop decreases-loop
 returns-3 c = prefix_len_of_le _ _ (omega arith)
 
-pub read-whole-spec : {M : Type 1} → statement M
-read-whole-spec =
+pub read_whole_spec : {M : Type 1} → statement M
+read_whole_spec =
     tie.close
     (tie.spec
     invariant-loop

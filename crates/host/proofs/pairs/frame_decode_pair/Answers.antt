@@ -3,7 +3,7 @@ use Rattle.decoding.specs.Decoding.{Memory}
 use Rattle.decoding.specs.Frames.{memory}
 use Rattle.decoding.specs.Pairing.Pairs.{Heads, heads}
 use Rattle.interface.specs.Packing.{asked_of}
-use Rattle.interface.proofs.PairAnswers.{pair-asked, pair-reportable, entry-reported, pair_under}
+use Rattle.interface.proofs.PairAnswers.{pair_asked, pair_reportable, entry_reported, pair_under}
 use Rattle.host.proofs.pairs.frame_decode_pair.Goals as goal
 
 pub report-requires : goal.report-requires
@@ -12,7 +12,7 @@ report-requires c =
     let M : Memory = let a = c.args in memory a.first_levels.now a.first_variable_messages.now a.first_check_messages.now a.first_sums.now a.first_bits.now in
     let N : Memory = let a = c.args in memory a.second_levels.now a.second_variable_messages.now a.second_check_messages.now a.second_sums.now a.second_bits.now in
     let Q = P c.scaling_of-first_scaling.result c.scaling_of-second_scaling.result in
-    pair-reportable Q M N c.args.degrees.now c.args.reports.now c.decode-d.result (pair-asked Q c.allowance_for-asked.ensures c.decode-d.ensures)
+    pair_reportable Q M N c.args.degrees.now c.args.reports.now c.decode-d.result (pair_asked Q c.allowance_for-asked.ensures c.decode-d.ensures)
 
 pub shape_of-degrees : goal.shape_of-degrees
 shape_of-degrees c = c.decode-d.auto.degrees
@@ -56,4 +56,4 @@ returns c =
     let M : Memory = let a = c.args in memory a.first_levels.now a.first_variable_messages.now a.first_check_messages.now a.first_sums.now a.first_bits.now in
     let N : Memory = let a = c.args in memory a.second_levels.now a.second_variable_messages.now a.second_check_messages.now a.second_sums.now a.second_bits.now in
     let Q = P c.scaling_of-first_scaling.result c.scaling_of-second_scaling.result in
-    pair_under P c.scaling_of-first_scaling.ensures c.scaling_of-second_scaling.ensures (entry-reported Q M N c.args.degrees.now c.args.reports.now (pair-asked Q c.allowance_for-asked.ensures c.decode-d.ensures) c.report.ensures)
+    pair_under P c.scaling_of-first_scaling.ensures c.scaling_of-second_scaling.ensures (entry_reported Q M N c.args.degrees.now c.args.reports.now (pair_asked Q c.allowance_for-asked.ensures c.decode-d.ensures) c.report.ensures)

@@ -1,12 +1,12 @@
 use Rattle.pausing.specs.Pausing.{Asked, asked}
 use Rattle.interface.specs.Runs.{unscaled_of}
-use Rattle.interface.proofs.RunAnswers.{advanced-packs, host-advances}
+use Rattle.interface.proofs.RunAnswers.{advanced_packs, host_advances}
 use Rattle.host.proofs.runs.frame_advance.Goals as goal
 
 pub pack_advanced-requires : goal.pack_advanced-requires
 pack_advanced-requires c =
     let A : Asked = let a = c.args in asked a.n a.starts.now a.columns.now (unscaled_of a.channel a.message a.phi_s a.phi_a a.phi_0 a.limit a.lift_from a.lift_to) a.count in
-    advanced-packs A c.args.«record» c.unpack-run.ensures c.advance-a.ensures
+    advanced_packs A c.args.«record» c.unpack-run.ensures c.advance-a.ensures
 
 pub shape_of-degrees : goal.shape_of-degrees
 shape_of-degrees c = c.advance-a.auto.degrees
@@ -26,4 +26,4 @@ shape_of-bits c = c.advance-a.auto.bits
 pub returns : goal.returns
 returns c =
     let A : Asked = let a = c.args in asked a.n a.starts.now a.columns.now (unscaled_of a.channel a.message a.phi_s a.phi_a a.phi_0 a.limit a.lift_from a.lift_to) a.count in
-    host-advances A c.args.«record» c.unpack-run.ensures c.advance-a.ensures c.pack_advanced.ensures
+    host_advances A c.args.«record» c.unpack-run.ensures c.advance-a.ensures c.pack_advanced.ensures

@@ -6,7 +6,7 @@ use Rattle.decoding.specs.Decoding.{Frame, Memory}
 use Rattle.decoding.specs.Frames.{frame, memory}
 use Rattle.interface.specs.Packing.{asked_of}
 use Rattle.interface.specs.Runs.{SmallBegun}
-use Rattle.interface.proofs.RunAnswers.{begun-small, host-begins, begins-under}
+use Rattle.interface.proofs.RunAnswers.{begun_small, host_begins, begins_under}
 use Rattle.host.proofs.runs.frame_begin.Goals as goal
 
 pub pack_begun-requires : goal.pack_begun-requires
@@ -14,7 +14,7 @@ pack_begun-requires c =
     let asked : Scaling → Parameters = λ scaling. let a = c.args in asked_of scaling a.channel a.message a.phi_s a.phi_a a.phi_0 a.limit a.lift_from a.lift_to in
     let F : Scaling → Frame = λ scaling. frame c.args.n c.args.starts.now c.args.columns.now c.args.values.now (asked scaling) in
     let M : Memory = memory c.args.levels.now c.args.variable_messages.now c.args.check_messages.now c.args.sums.now c.args.bits.now in
-    subst SmallBegun (sym c.begin-b.ensures.answer) (begun-small (F c.scaling_of-scaling.result) M (length c.args.degrees.now))
+    subst SmallBegun (sym c.begin-b.ensures.answer) (begun_small (F c.scaling_of-scaling.result) M (length c.args.degrees.now))
 
 pub shape_of-degrees : goal.shape_of-degrees
 shape_of-degrees c = c.begin-b.auto.degrees
@@ -38,4 +38,4 @@ pub returns : goal.returns
 returns c =
     let asked : Scaling → Parameters = λ scaling. let a = c.args in asked_of scaling a.channel a.message a.phi_s a.phi_a a.phi_0 a.limit a.lift_from a.lift_to in
     let F : Scaling → Frame = λ scaling. frame c.args.n c.args.starts.now c.args.columns.now c.args.values.now (asked scaling) in
-    begins-under F c.scaling_of-scaling.ensures (host-begins c.begin-b.ensures c.pack_begun.ensures)
+    begins_under F c.scaling_of-scaling.ensures (host_begins c.begin-b.ensures c.pack_begun.ensures)

@@ -1,13 +1,13 @@
 use mathlib.Core.Path.{sym, subst}
 use lib.ListN.{length}
 use Rattle.interface.specs.Packing.{SmallRead}
-use Rattle.interface.proofs.BlockAnswers.{blocks-small, host-reads-blocks}
+use Rattle.interface.proofs.BlockAnswers.{blocks_small, host_reads_blocks}
 use Rattle.host.proofs.sheets.frame_read_blocks.Goals as goal
 
 pub pack_read-requires : goal.pack_read-requires
 pack_read-requires c =
     let a = c.args in
-    subst SmallRead (sym c.read-s.ensures.read.answer) (blocks-small a.text.now (length a.degrees.now) (length a.starts.now) (length a.columns.now))
+    subst SmallRead (sym c.read-s.ensures.read.answer) (blocks_small a.text.now (length a.degrees.now) (length a.starts.now) (length a.columns.now))
 
 pub returns : goal.returns
-returns c = host-reads-blocks c.read-s.ensures c.pack_read.ensures
+returns c = host_reads_blocks c.read-s.ensures c.pack_read.ensures

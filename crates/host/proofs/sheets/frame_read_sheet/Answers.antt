@@ -1,7 +1,7 @@
 use mathlib.Core.Path.{sym, subst}
 use lib.ListN.{length}
 use Rattle.interface.specs.Packing.{SmallRead}
-use Rattle.interface.proofs.SheetAnswers.{read_small, host-reads}
+use Rattle.interface.proofs.SheetAnswers.{read_small, host_reads}
 use Rattle.host.proofs.sheets.frame_read_sheet.Goals as goal
 
 pub pack_read-requires : goal.pack_read-requires
@@ -10,4 +10,4 @@ pack_read-requires c =
     subst SmallRead (sym c.read-s.ensures.answer) (read_small a.text.now (length a.degrees.now) (length a.starts.now) (length a.columns.now))
 
 pub returns : goal.returns
-returns c = host-reads c.read-s.ensures c.pack_read.ensures
+returns c = host_reads c.read-s.ensures c.pack_read.ensures

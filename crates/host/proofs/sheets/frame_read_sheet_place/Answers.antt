@@ -1,5 +1,5 @@
-use Rattle.interface.proofs.SheetAnswers.{tells-line}
+use Rattle.interface.proofs.SheetAnswers.{tells_line}
 use Rattle.host.proofs.sheets.frame_read_sheet_place.Goals as goal
 
 pub returns : goal.returns
-returns c = tells-line c.judge_read-j.ensures c.place_of.ensures
+returns c = tells_line c.judge_read-j.ensures c.place_of.ensures

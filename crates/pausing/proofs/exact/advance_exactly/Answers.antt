@@ -1,5 +1,5 @@
 use native.Mathlib.Omega.{arith}
-use Rattle.pausing.proofs.Pausing.{advances-exactly}
+use Rattle.pausing.proofs.Pausing.{advances_exactly}
 use Rattle.pausing.proofs.exact.advance_exactly.Goals as goal
 
 pub end_of-requires : goal.end_of-requires
@@ -24,4 +24,4 @@ pub shape_of-bits : goal.shape_of-bits
 shape_of-bits c = c.go_on-t.auto.bits
 
 pub returns : goal.returns
-returns c = let a = c.args in λ σ given. advances-exactly _ _ a.s.limit a.count a.t _ c.end_of.ensures given.number c.requires.t_lt_limit.0 (c.go_on-t.ensures σ given) c.odd_checks.ensures c.run_at.ensures
+returns c = let a = c.args in λ σ given. advances_exactly _ _ a.s.limit a.count a.t _ c.end_of.ensures given.number c.requires.t_lt_limit.0 (c.go_on-t.ensures σ given) c.odd_checks.ensures c.run_at.ensures

@@ -5,8 +5,8 @@ use lib.Seq.{length-take-le}
 use Rattle.rules.specs.Levels.{largest}
 use Rattle.words.specs.Roles.{wide, graph_of}
 use Rattle.decoding.specs.Frames.{memory}
-use Rattle.decoder.proofs.Beginning.{ready-sized}
-use Rattle.pausing.proofs.Pausing.{given-handed, advance-into}
+use Rattle.decoder.proofs.Beginning.{ready_sized}
+use Rattle.pausing.proofs.Pausing.{given_handed, advance_into}
 use Rattle.pausing.proofs.exact.advance_within.Goals as goal
 
 pub slice_bounds-advance_exactly-end : goal.slice_bounds-advance_exactly-end
@@ -28,10 +28,10 @@ pub advance_exactly-requires : goal.advance_exactly-requires
 advance_exactly-requires c =
     let a = c.args in
     let l = c.requires.long.0 in
-    record { admissible = (c.requires.admissible.0, ready-sized (graph_of a.n a.starts.now a.columns.now) c.requires.admissible.1 c.requires.admissible.2 (length-take-le a.n a.levels.now l.levels) (length-take-le (length a.columns.now / wide) a.variable_messages.now l.variable_messages) (length-take-le (length a.columns.now / wide) a.check_messages.now l.check_messages) (length-take-le (4 * a.n) a.sums.now l.sums) (length-take-le a.n a.bits.now l.bits)); t_lt_limit = (c.requires.long.1, c.requires.long.2) }
+    record { admissible = (c.requires.admissible.0, ready_sized (graph_of a.n a.starts.now a.columns.now) c.requires.admissible.1 c.requires.admissible.2 (length-take-le a.n a.levels.now l.levels) (length-take-le (length a.columns.now / wide) a.variable_messages.now l.variable_messages) (length-take-le (length a.columns.now / wide) a.check_messages.now l.check_messages) (length-take-le (4 * a.n) a.sums.now l.sums) (length-take-le a.n a.bits.now l.bits)); t_lt_limit = (c.requires.long.1, c.requires.long.2) }
 
 pub returns : goal.returns
 returns c =
     let a = c.args in
-    advance-into (memory a.levels.now a.variable_messages.now a.check_messages.now a.sums.now a.bits.now)
-    (c.advance_exactly.ensures _ (given-handed (largest a.s.message) (length a.columns.now / wide) a.run a.variable_messages.now a.check_messages.now (λ k. (c.slice_known-1.given k).fits) (λ k. (c.slice_known-2-1.given k).fits) c.requires.columns_value.0 c.requires.columns_value.1))
+    advance_into (memory a.levels.now a.variable_messages.now a.check_messages.now a.sums.now a.bits.now)
+    (c.advance_exactly.ensures _ (given_handed (largest a.s.message) (length a.columns.now / wide) a.run a.variable_messages.now a.check_messages.now (λ k. (c.slice_known-1.given k).fits) (λ k. (c.slice_known-2-1.given k).fits) c.requires.columns_value.0 c.requires.columns_value.1))

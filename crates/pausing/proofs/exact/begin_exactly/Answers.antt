@@ -1,6 +1,6 @@
 use native.Mathlib.Omega.{arith}
 use Rattle.words.specs.Roles.{graph_of}
-use Rattle.pausing.proofs.Pausing.{begins-exactly}
+use Rattle.pausing.proofs.Pausing.{begins_exactly}
 use Rattle.pausing.proofs.exact.begin_exactly.Goals as goal
 
 pub odd_checks-requires : goal.odd_checks-requires
@@ -22,4 +22,4 @@ pub shape_of-bits : goal.shape_of-bits
 shape_of-bits c = c.begin_exactly.auto.bits
 
 pub returns : goal.returns
-returns c = let a = c.args in begins-exactly (graph_of a.n a.starts.now a.columns.now) a.values.now c.requires.ready c.begin_exactly.ensures c.odd_checks.ensures c.run_at.ensures
+returns c = let a = c.args in begins_exactly (graph_of a.n a.starts.now a.columns.now) a.values.now c.requires.ready c.begin_exactly.ensures c.odd_checks.ensures c.run_at.ensures

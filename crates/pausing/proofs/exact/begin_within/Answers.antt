@@ -4,7 +4,7 @@ use lib.ListN.{length}
 use lib.Seq.{length-take-le}
 use Rattle.words.specs.Roles.{wide}
 use Rattle.decoding.specs.Frames.{memory}
-use Rattle.pausing.proofs.Pausing.{begin-into}
+use Rattle.pausing.proofs.Pausing.{begin_into}
 use Rattle.pausing.proofs.exact.begin_within.Goals as goal
 
 pub slice_bounds-begin_exactly-end-2 : goal.slice_bounds-begin_exactly-end-2
@@ -29,4 +29,4 @@ begin_exactly-requires c =
     record { ready = c.requires.ready; exact = (length-take-le a.n a.levels.now l.levels, length-take-le (length a.columns.now / wide) a.variable_messages.now l.variable_messages, length-take-le (length a.columns.now / wide) a.check_messages.now l.check_messages, length-take-le (4 * a.n) a.sums.now l.sums, length-take-le a.n a.bits.now l.bits) }
 
 pub returns : goal.returns
-returns c = let a = c.args in begin-into (memory a.levels.now a.variable_messages.now a.check_messages.now a.sums.now a.bits.now) c.begin_exactly.ensures
+returns c = let a = c.args in begin_into (memory a.levels.now a.variable_messages.now a.check_messages.now a.sums.now a.bits.now) c.begin_exactly.ensures
