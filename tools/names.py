@@ -114,7 +114,7 @@ def main():
             if name.endswith(".edit"):
                 text = re.sub(r"(?m)^(file: (?:specs|proofs)/)(%s)/" % "|".join(MODULES), lambda m: m.group(1) + MODULES[m.group(2)] + "/", text)
             write(path, text)
-    paths = [os.path.join(d, f) for d, _, fs in os.walk("crates") if "/out" not in d for f in sorted(fs) if f.endswith((".rt", ".antt", ".edit"))]
+    paths = [os.path.join(d, f) for d, _, fs in os.walk("crates") if "out" not in d.split(os.sep) for f in sorted(fs) if f.endswith((".rt", ".antt", ".edit"))]
     texts = {}
     for path in paths:
         with open(path, encoding="utf-8") as f:
