@@ -27,7 +27,7 @@ DECLARED = re.compile(r"(?m)^((?:pub )?mod )(%s)$" % "|".join(MODULES))
 DASHED = r"[a-z][a-z0-9_']*(?:-[a-z0-9_']+)+"
 HEAD = re.compile(r"(?m)^ *(?:abbrev |unfoldable )?(?:pub )?(?:abbrev |unfoldable )?(%s) :(?!\s*(?:goal|tie|lts)\.)" % DASHED)
 LET = re.compile(r"\blet (%s)(?= [:=])" % DASHED)
-TOKEN = re.compile(r"(\.?)([^\s(){}.;,@\"«»\[\]`←|]+)")
+TOKEN = re.compile(r"((?<![\w'.])[A-Z][\w']*\.|\.?)([^\s(){}.;,@\"«»\[\]`←|]+)")
 
 PAGES = ("README.md", "docs/PROMISES.md", "docs/DECISIONS.md", "compare/README.md")
 
@@ -74,7 +74,7 @@ def undashed(texts):
 def joined(text, names, fields):
     def one(m):
         dot, word = m.groups()
-        if word in names and (not dot or word in fields):
+        if word in names and (dot != "." or word in fields):
             return dot + names[word]
         return m.group(0)
 

@@ -67,7 +67,7 @@ graph_in_lem t G st co e =
     let s : ℕ = wide * suc program_limits.checks in
     let c : ℕ = wide * program_limits.entries in
     let a = (texts_and_graphs.accepted program_limits t (4 * program_limits.variables) s c G
-    (Calls.same-reading program_limits t (4 * program_limits.variables) s c (Calls.most-enough program_limits t (omega arith)) ∙ e)).0 in
+    (Calls.same_reading program_limits t (4 * program_limits.variables) s c (Calls.most_enough program_limits t (omega arith)) ∙ e)).0 in
     let st' : take (wide * (G.checks + 1)) (table wide G.start (suc G.checks) ++ drop (wide * suc G.checks) st) ≡ table wide G.start (suc G.checks)
     = take_at (table wide G.start (suc G.checks)) (drop (wide * suc G.checks) st) (wide * (G.checks + 1)) (length_table wide G.start (suc G.checks) ∙ omega arith) in
     let co' : take (wide * G.entries) (table wide G.column G.entries ++ drop (wide * G.entries) co) ≡ table wide G.column G.entries

@@ -71,9 +71,9 @@ abbrev pub Lined : Limits → Pair → List Pair → Type 0
 Lined L c ps = Listing.Lined (sheet_layout L) Fits c ps
 
 pub sheet_read_lem : (L : Limits) (c : Pair) (ps : List Pair) → Lined L c ps → sheet_lines L (sheet_of c ps) ≡ lines c ps
-sheet_read_lem L c ps h = ap (sheet_lines L) (sym (sheet_is L c ps)) ∙ Listed.sheet-read (sheet_layout L) (readable_sheet L) Fits judging c ps h
+sheet_read_lem L c ps h = ap (sheet_lines L) (sym (sheet_is L c ps)) ∙ Listed.sheet_read_lem (sheet_layout L) (readable_sheet L) Fits judging c ps h
 
 pub sheet_told : (L : Limits) (t : List ℕ) (c : Pair) (ps : List Pair) → sheet_lines L t ≡ lines c ps → (t ≡ sheet_of c ps) × Lined L c ps
 sheet_told L t c ps e =
-    let w = Listed.sheet-told (sheet_layout L) (readable_sheet L) Fits judging t c ps e in
+    let w = Listed.sheet_told (sheet_layout L) (readable_sheet L) Fits judging t c ps e in
     (w.0 ∙ sheet_is L c ps, w.1)
