@@ -6,7 +6,11 @@ ghost use Rattle.decoding.specs.Pairing.Pairs.{heads};
 ghost use Rattle.interface.specs.Packing.{scaling_of, asked_of, TellsPlace};
 ghost use Rattle.interface.specs.Pairs.{pair_place, HostDecodesPair};
 
+use decoding::Room;
 use settings::Parameters;
+
+// The length of the list of reports.
+const REPORTS: usize = 16;
 
 // Decodes the frames of two heads. The answer's lowest byte is the refusal's number, 0 where nothing is refused, and the next says whose it is: 1 and 2 for
 // the heads, 0 for neither's.
@@ -79,12 +83,40 @@ pub extern "C" fn frame_decode_pair(
         lift_from: second_lift_from,
         lift_to: second_lift_to,
     };
-    let asked = reporting::allowance_for(allowance, reports.len());
-    let d = pairing::decode(
+    if reports.len() < REPORTS {
+        let first_room = Room {
+            levels: first_levels.len(),
+            variable_messages: first_variable_messages.len(),
+            check_messages: first_check_messages.len(),
+            sums: first_sums.len(),
+            bits: first_bits.len(),
+        };
+        let second_room = Room {
+            levels: second_levels.len(),
+            variable_messages: second_variable_messages.len(),
+            check_messages: second_check_messages.len(),
+            sums: second_sums.len(),
+            bits: second_bits.len(),
+        };
+        return reporting::refuse_short(
+            n,
+            starts,
+            columns,
+            allowance,
+            first_values,
+            first_asked,
+            second_values,
+            second_asked,
+            degrees,
+            first_room,
+            second_room,
+        );
+    }
+    reporting::decode_reported(
         n,
         starts,
         columns,
-        asked,
+        allowance,
         first_values,
         first_asked,
         second_values,
@@ -100,8 +132,8 @@ pub extern "C" fn frame_decode_pair(
         second_check_messages,
         second_sums,
         second_bits,
-    );
-    reporting::report(d, allowance, reports)
+        reports,
+    )
 }
 
 // The place of what `frame_decode_pair` refuses of this graph, with this list of degrees, and of the values of both heads, where it answered `answer`: that of

@@ -5,7 +5,7 @@ use mathlib.Core.List.{List, ◌++◌}
 use Prim.Native.Nat.{ℕ, ◌+◌, ◌/◌, ◌%◌, ◌≤◌, ◌<◌}
 use native.Mathlib.Numerals.{add-four}
 use native.Mathlib.Omega.{arith}
-use borrow.Author.Tests.{eq-eqb, leb-true}
+use borrow.Author.Tests.{eq-eqb, le-leb, lt-leb}
 use lib.Dec.{eqb, leb}
 use lib.ListN.{length, take, drop}
 use lib.Seq.{take_at, drop_at, drop-drop}
@@ -18,7 +18,6 @@ use Rattle.refusals.specs.declared.Judged.TheVariants as Judgement
 use Rattle.refusals.specs.declared.Refusal.{Refusal}
 use Rattle.refusals.specs.declared.Refusal.TheVariants as Refusals
 use Rattle.rules.specs.declared.Report.{Report}
-use Rattle.refusals.proofs.Judging.{unless_true}
 use Rattle.rules.proofs.Stops.{run_stops}
 use Rattle.words.specs.Words.{stored, bytes}
 use Rattle.words.proofs.Words.{length_bytes, length_stored, stored_is}
@@ -33,12 +32,16 @@ use Rattle.decoding.specs.declared.Party.{Party}
 use Rattle.decoding.specs.declared.Party.TheVariants.{First, Second, Pair}
 use Rattle.decoding.specs.declared.Paired.{Paired}
 use Rattle.decoding.specs.declared.Paired.TheVariants as Answer
+use Rattle.decoding.specs.declared.CheckedPair.{CheckedPair}
+use Rattle.decoding.specs.declared.CheckedPair.TheVariants as Pairs
 use Rattle.decoding.specs.Pairing.Grants.{grant, half_up, half_down}
-use Rattle.decoding.specs.Pairing.Pairs.{Heads, alone, report_with, Found, admitted, refused, found_of, allowance_judged, graph_of_both, first_frame, second_frame, pair_finds, pair_answer, first_report, second_report, first_after, second_after, DecodesPair}
+use Rattle.decoding.specs.Pairing.Pairs.{Heads, alone, report_with, Found, admitted, refused, found_of, allowance_judged, graph_of_both, first_frame, second_frame, pair_finds, first_report, second_report, AcceptsPair, DecodesPair}
 use Rattle.decoding.proofs.Pairing.Finding.{all_told}
-use Rattle.decoding.proofs.Pairing.Promises.{ran_told, taken_small}
+use Rattle.decoding.proofs.Pairing.Finding.{found_refused}
+use Rattle.decoding.proofs.Pairing.Promises.{ran_told, refused_told, taken_small}
+use Rattle.settings.specs.Settings.{settings}
 use Rattle.interface.specs.Packing.{Small, pack_decoded, number_of, place_of, places_judged, decode_place, TellsPlace}
-use Rattle.interface.specs.Pairs.{party_number, pack_refused, pack_found, or_then, entry_finds, Reported, HostDecodesPair, allowance_for, refusal_for, Reportable, pack_paired, reports_of, ReportsPair, found_place, PairPlaces}
+use Rattle.interface.specs.Pairs.{party_number, pack_refused, pack_found, or_then, entry_finds, reports_after, Reported, HostDecodesPair, ReportsPair, RefusesShort, found_place, PairPlaces}
 use Rattle.interface.proofs.Smallness.{unsatisfied_small}
 use Rattle.interface.proofs.Places.{none_placed, number_small, places_told}
 
@@ -75,7 +78,7 @@ report_small : (F : Frame) (g : ℕ) → Graphs.Admitted (graph F) → g ≤ 255
 unfolding report
 report_small F g ok l = (omega (arith, (run_stops (graph F) (scheme F) g).within), unsatisfied_small F (stop (graph F) (scheme F) g) ok)
 
-both_small : (P : Heads) (M N : Memory) (d : List ℕ) {M' N' : Memory} {d' : List ℕ} {r r₂ : Report} → DecodesPair P M M' N N' d d' (Answer.Ran r r₂) → Small (Ran r) × Small (Ran r₂)
+pub both_small : (P : Heads) (M N : Memory) (d : List ℕ) {M' N' : Memory} {d' : List ℕ} {r r₂ : Report} → DecodesPair P M M' N N' d d' (Answer.Ran r r₂) → Small (Ran r) × Small (Ran r₂)
 both_small P M N d {r = r} {r₂ = r₂} w = (
   subst (λ (x : Report). Small (Ran x)) (sym ran.1) (report_small (first_frame P) (grant (half_up T) T a b) ok (omega (arith, la))),
   subst (λ (x : Report). Small (Ran x)) (sym ran.2) (report_small (second_frame P) (grant (half_down T) T b a) ok (omega (arith, lb))),
@@ -112,91 +115,63 @@ party_small First = omega arith
 party_small Second = omega arith
 party_small Pair = omega arith
 
-pub refusal_pair : (T : ℕ) (r : Refusal) {p : Party} {b : Bool} (t : Bool) → p ≡ Pair → b ≡ between 2 T 510 → b ≡ t → cond t Refusals.Buffer Refusals.Allowance ≡ refusal_for T p r
-refusal_pair T r {p} t e f g = sym (ap (λ (p : Party). refusal_for T p r) e ∙ ap (λ b. cond b Refusals.Buffer Refusals.Allowance) (sym f ∙ g))
+-- once the answer is known
+pub as_answer : {P : Heads} {M M' N N' : Memory} {d d' : List ℕ} {x y : Paired} → x ≡ y → DecodesPair P M M' N N' d d' x → DecodesPair P M M' N N' d d' y
+as_answer {P} {M} {M'} {N} {N'} {d} {d'} e w = subst (DecodesPair P M M' N N' d d') e w
 
--- what is reported of each answer of the library
-pub small_ran : {x : Paired} {k : ℕ} {r r₂ : Report} → x ≡ Answer.Ran r r₂ → Reportable x k → Small (Ran r) × Small (Ran r₂) × 16 ≤ k
-small_ran {k = k} e w = subst (λ (x : Paired). Reportable x k) e w
+pub short_refused : (P : Heads) (m m' : Room) {d d' : List ℕ} {a : CheckedPair} {p : Party} {r : Refusal} {x : ℕ} → AcceptsPair P m m' d d' a → a ≡ Pairs.Refused p r → x ≡ pack_refused p r
+    → RefusesShort P m m' d d' x
+short_refused P m m' {d} w e q = record {
+  answer = q ∙ sym (ap (λ f. pack_found (or_then f (refused Pair Refusals.Buffer))) (found_refused (pair_finds P (length d) m m') (settings P.first.asked) (settings P.second.asked) (sym w.answer ∙ e)));
+  degrees = w.degrees;
+}
 
-pub reported_refused : {T : ℕ} {x : Paired} {l : List ℕ} {p : Party} {r : Refusal} {k : ℕ} → x ≡ Answer.Refused p r → k ≡ pack_refused p (refusal_for T p r) → ReportsPair T x l l k
-reported_refused {T} {x} {l} e q = record { answer = q ∙ sym (ap (pack_paired T) e); reports = sym (ap (λ (x : Paired). reports_of x l) e) }
-
-pub reported_ran : {T : ℕ} {x : Paired} {l l' : List ℕ} {r r₂ : Report} → x ≡ Answer.Ran r r₂ → l' ≡ bytes 8 (pack_decoded (Ran r)) ++ (bytes 8 (pack_decoded (Ran r₂)) ++ drop 16 l) → ReportsPair T x l l' 0
-reported_ran {T} {x} {l} e q = record { answer = sym (ap (pack_paired T) e); reports = q ∙ sym (ap (λ (x : Paired). reports_of x l) e) }
-
--- ---- the entry
-
--- the pair with another allowance
-abbrev pub with_allowance : ℕ → Heads → Heads
-with_allowance T P = record { variables = P.variables; starts = P.starts; columns = P.columns; allowance = T; first = P.first; second = P.second }
+pub short_good : (P : Heads) (m m' : Room) {d d' : List ℕ} {a : CheckedPair} {x : ℕ} → AcceptsPair P m m' d d' a → pair_finds P (length d) m m' ≡ admitted → x ≡ pack_refused Pair Refusals.Buffer
+    → RefusesShort P m m' d d' x
+short_good P m m' w e q = record { answer = q ∙ sym (ap (λ f. pack_found (or_then f (refused Pair Refusals.Buffer))) e); degrees = w.degrees }
 
 module _ (P : Heads) (M N : Memory) (d l : List ℕ) where
-  abbrev T : ℕ
-  T = P.allowance
+  abbrev finds : Found
+  finds = pair_finds P (length d) (room_of M) (room_of N)
 
-  -- as it is asked
-  abbrev Q : Heads
-  Q = with_allowance (allowance_for T (length l)) P
+  pub reported_refused : {M' N' : Memory} {d' : List ℕ} {p : Party} {r : Refusal} {x : ℕ} → DecodesPair P M M' N N' d d' (Answer.Refused p r) → x ≡ pack_refused p r
+      → ReportsPair P M M' N N' d d' l l x
+  reported_refused w q =
+      let h = refused_told P finds w.answer in
+      record { answer = q ∙ sym (ap pack_found h); first = w.first; second = w.second; reports = sym (ap (λ f. reports_after P f l) h); degrees = w.degrees }
 
-  pub pair_reportable : {M' N' : Memory} {d' : List ℕ} (x : Paired) → DecodesPair Q M M' N N' d d' x → Reportable x (length l)
-  pair_reportable (Answer.Refused p r) w = omega arith
-  pair_reportable (Answer.Ran r r₂) w = (small.0, small.1, leb-true 16 (length l) (go (leb 16 (length l)) allowed))
+  pub reported_ran : {M' N' : Memory} {d' l' : List ℕ} {r r₂ : Report} → DecodesPair P M M' N N' d d' (Answer.Ran r r₂) → l' ≡ bytes 8 (pack_decoded (Ran r)) ++ (bytes 8 (pack_decoded (Ran r₂)) ++ drop 16 l)
+      → ReportsPair P M M' N N' d d' l l' 0
+  reported_ran w q =
+      let h = ran_told P finds w.answer in
+      record {
+        answer = sym (ap pack_found h.0);
+        first = w.first;
+        second = w.second;
+        reports = q ∙ ap₂ (λ (a b : Report). bytes 8 (pack_decoded (Ran a)) ++ (bytes 8 (pack_decoded (Ran b)) ++ drop 16 l)) h.1 h.2 ∙ sym (ap (λ f. reports_after P f l) h.0);
+        degrees = w.degrees;
+      }
+
+  -- the whole of it
+  then_none : (f : Found) → or_then f admitted ≡ f
+  then_none admitted = refl
+  then_none (refused p r) = refl
+
+  pub entry_long : {M' N' : Memory} {d' l' : List ℕ} {r : ℕ} → 16 ≤ length l → ReportsPair P M M' N N' d d' l l' r → HostDecodesPair P M M' N N' d d' l l' r
+  unfolding entry_finds
+  entry_long {M'} {N'} {d'} {l'} {r} h w = subst (λ f. Reported P f M M' N N' d d' l l' r)
+      (sym (ap (λ b. or_then finds (found_of Pair (unless b Refusals.Buffer) admitted)) (le-leb 16 (length l) h) ∙ then_none finds)) w
+
+  pub entry_short : {d' : List ℕ} {r : ℕ} → length l < 16 → RefusesShort P (room_of M) (room_of N) d d' r → HostDecodesPair P M M N N d d' l l r
+  unfolding entry_finds
+  entry_short {d'} {r} h w = subst (λ f. Reported P f M M N N d d' l l r)
+      (sym (ap (λ b. or_then finds (found_of Pair (unless b Refusals.Buffer) admitted)) (lt-leb 16 (length l) h))) (go finds w.answer)
     where
-      small : Small (Ran r) × Small (Ran r₂)
-      small = both_small Q M N d w
+      go : (f : Found) → r ≡ pack_found (or_then f (refused Pair Refusals.Buffer)) → Reported P (or_then f (refused Pair Refusals.Buffer)) M M N N d d' l l r
+      go admitted e = record { answer = e; first = refl; second = refl; reports = refl; degrees = w.degrees }
+      go (refused p x) e = record { answer = e; first = refl; second = refl; reports = refl; degrees = w.degrees }
 
-      allowed : between 2 (allowance_for T (length l)) 510 ≡ true
-      allowed = unless_true (between 2 (allowance_for T (length l)) 510) Refusals.Allowance
-          (all_told Q (length d) (room_of M) (room_of N) (ran_told Q (pair_finds Q (length d) (room_of M) (room_of N)) w.answer).0).2
-
-      go : (b : Bool) → between 2 (cond b T 0) 510 ≡ true → b ≡ true
-      go true e = refl
-      go false e = e
-
-  pub entry_reported : {M' N' : Memory} {d' l' : List ℕ} {x : Paired} {r : ℕ} → DecodesPair Q M M' N N' d d' x → ReportsPair T x l l' r → HostDecodesPair P M M' N N' d d' l l' r
-  unfolding pair_finds entry_finds
-  entry_reported {M'} {N'} {d'} {l'} {x} {r} w q =
-      go (decode_finds (first_frame P) (length d) (room_of M)) (decode_finds (second_frame P) (length d) (room_of N)) (leb 16 (length l)) (between 2 (allowance_for T (length l)) 510) refl (between 2 T 510) refl
-      w.answer w.first w.second
-    where
-      with_list : Bool → Heads
-      with_list b = with_allowance (cond b T 0) P
-
-      -- what is found as it is asked, and what is to be found
-      asked : Judged → Judged → Bool → Found
-      asked j j' u = found_of First j (found_of Second j' (found_of Pair (unless u Refusals.Allowance) admitted))
-
-      listed : {y : Paired} → x ≡ y → l' ≡ reports_of y l
-      listed e = q.reports ∙ ap (λ (x : Paired). reports_of x l) e
-
-      answered : {y : Paired} → x ≡ y → r ≡ pack_paired T y
-      answered e = q.answer ∙ ap (pack_paired T) e
-
-      none : {A : Type 0} {b : Bool} → b ≡ true → b ≡ false → A
-      none e f = let z : ◌≡◌ {A = ℕ} 0 1 = cc in absurd (omega arith)
-
-      -- the pair's own refusal
-      own : {t : Bool} → between 2 T 510 ≡ t → x ≡ Answer.Refused Pair Refusals.Allowance → r ≡ pack_refused Pair (cond t Refusals.Buffer Refusals.Allowance)
-      own f e = answered e ∙ ap (λ t. pack_refused Pair (cond t Refusals.Buffer Refusals.Allowance)) f
-
-      go : (j j' : Judged) (b u : Bool) → between 2 (cond b T 0) 510 ≡ u → (t : Bool) → between 2 T 510 ≡ t
-          → x ≡ pair_answer (with_list b) (asked j j' u) → M' ≡ first_after (with_list b) (asked j j' u) M → N' ≡ second_after (with_list b) (asked j j' u) N
-          → Reported P (or_then (asked j j' t) (found_of Pair (unless b Refusals.Buffer) admitted)) M M' N N' d d' l l' r
-      go (Judgement.Refused k) j' b u e t f a m n = record { answer = answered a; first = m; second = n; reports = listed a; degrees = w.degrees }
-      go Judgement.Admitted (Judgement.Refused k) b u e t f a m n = record { answer = answered a; first = m; second = n; reports = listed a; degrees = w.degrees }
-      go Judgement.Admitted Judgement.Admitted true true e true f a m n = record { answer = answered a; first = m; second = n; reports = listed a; degrees = w.degrees }
-      go Judgement.Admitted Judgement.Admitted true false e false f a m n = record { answer = own f a; first = m; second = n; reports = listed a; degrees = w.degrees }
-      go Judgement.Admitted Judgement.Admitted true true e false f a m n = none e f
-      go Judgement.Admitted Judgement.Admitted true false e true f a m n = none f e
-      go Judgement.Admitted Judgement.Admitted false true e t f a m n = none e refl
-      go Judgement.Admitted Judgement.Admitted false false e true f a m n = record { answer = own f a; first = m; second = n; reports = listed a; degrees = w.degrees }
-      go Judgement.Admitted Judgement.Admitted false false e false f a m n = record { answer = own f a; first = m; second = n; reports = listed a; degrees = w.degrees }
-
--- under the allowance that was asked with, and the scalings of the kinds
-pub pair_asked : (P : Heads) {T T' : ℕ} {M M' N N' : Memory} {d d' : List ℕ} {x : Paired} → T ≡ T' → DecodesPair (with_allowance T P) M M' N N' d d' x → DecodesPair (with_allowance T' P) M M' N N' d d' x
-pair_asked P {M = M} {M' = M'} {N = N} {N' = N'} {d = d} {d' = d'} {x = x} e w = subst (λ (T : ℕ). DecodesPair (with_allowance T P) M M' N N' d d' x) e w
-
+-- under the scalings of the kinds
 pub pair_under : (P : Scaling → Scaling → Heads) {s s' t t' : Scaling} {M M' N N' : Memory} {d d' l l' : List ℕ} {r : ℕ} → s ≡ s' → t ≡ t'
     → HostDecodesPair (P s t) M M' N N' d d' l l' r → HostDecodesPair (P s' t') M M' N N' d d' l l' r
 pair_under P {s} {s'} {t} {t'} {M} {M'} {N} {N'} {d} {d'} {l} {l'} {r} e f w =

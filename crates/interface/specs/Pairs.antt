@@ -56,34 +56,13 @@ pub record Reported (P : Heads) (f : Found) (M M' N N' : Memory) (d d' l l' : Li
 abbrev pub HostDecodesPair : Heads → Memory → Memory → Memory → Memory → List ℕ → List ℕ → List ℕ → List ℕ → ℕ → Type 0
 HostDecodesPair P M M' N N' d d' l l' r = Reported P (entry_finds P (length d) (room_of M) (room_of N) (length l)) M M' N N' d d' l l' r
 
--- And its parts. Where k bytes are lent for the reports, and those are too few, the library is asked with the allowance 0: 22 comes last, and nothing is
--- decoded.
-abbrev pub allowance_for : ℕ → ℕ → ℕ
-allowance_for T k = cond (leb 16 k) T 0
+-- And its parts: with a list of reports that is long enough, and with one that is too short.
+abbrev pub ReportsPair : Heads → Memory → Memory → Memory → Memory → List ℕ → List ℕ → List ℕ → List ℕ → ℕ → Type 0
+ReportsPair P M M' N N' d d' l l' r = Reported P (pair_finds P (length d) (room_of M) (room_of N)) M M' N N' d d' l l' r
 
--- What is refused, where the library so asked refuses r of p: of the pair itself the allowance, else the list of reports.
-abbrev pub refusal_for : ℕ → Party → Refusal → Refusal
-refusal_for T Pair r = cond (between 2 T 510) Refusals.Buffer Refusals.Allowance
-refusal_for T First r = r
-refusal_for T Second r = r
-
--- An answer of the library can be reported in k bytes.
-abbrev pub Reportable : Paired → ℕ → Type 0
-Reportable (Answer.Ran a b) k = Small (Ran a) × Small (Ran b) × 16 ≤ k
-Reportable (Answer.Refused p r) k = 0 ≤ 0
-
-abbrev pub pack_paired : ℕ → Paired → ℕ
-pack_paired T (Answer.Ran a b) = 0
-pack_paired T (Answer.Refused p r) = pack_refused p (refusal_for T p r)
-
-abbrev pub reports_of : Paired → List ℕ → List ℕ
-reports_of (Answer.Ran a b) l = bytes 8 (pack_decoded (Ran a)) ++ (bytes 8 (pack_decoded (Ran b)) ++ drop 16 l)
-reports_of (Answer.Refused p r) l = l
-
--- Reporting the library's answer x, where T was asked for, promises this of the answer r and of the list of reports, l before and l' after.
-pub record ReportsPair (T : ℕ) (x : Paired) (l l' : List ℕ) (r : ℕ) : Type 0 where
-  pub answer : r ≡ pack_paired T x
-  pub reports : l' ≡ reports_of x l
+pub record RefusesShort (P : Heads) (m m' : Room) (d d' : List ℕ) (r : ℕ) : Type 0 where
+  pub answer : r ≡ pack_found (or_then (pair_finds P (length d) m m') (refused Pair Refusals.Buffer))
+  pub degrees : d' ≡ degrees_in (countable limits (graph_of_both P) (length d)) (graph_of_both P) d
 
 -- The place of the pair's refusal, from the whole answer: decode's, of the values of the head that it names.
 abbrev pub pair_place : Graph → List ℕ → List ℕ → ℕ → ℕ → ℕ

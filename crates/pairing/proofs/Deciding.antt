@@ -2,12 +2,16 @@
 use mathlib.Core.Path.{◌≡◌, refl, sym, ap, ap₂, ◌∙◌, subst}
 use mathlib.Core.Bool.{Bool, true, false}
 use mathlib.Core.List.{List}
-use Prim.Native.Nat.{ℕ}
+use Prim.Native.Nat.{ℕ, ◌≤◌}
 use native.Mathlib.Omega.{arith}
+use borrow.Author.Tests.{leb-true}
+use lib.Dec.{leb}
 use lib.ListN.{length}
 use Rattle.rules.specs.Graphs.{Admitted, between}
 use Rattle.rules.specs.Sequence.{stop}
 use Rattle.refusals.specs.Refusals.{unless}
+use Rattle.rules.proofs.Tests.{and_right}
+use Rattle.refusals.proofs.Judging.{unless_true}
 use Rattle.refusals.specs.declared.Judged.TheVariants as Judgement
 use Rattle.refusals.specs.declared.Refusal.{Refusal}
 use Rattle.refusals.specs.declared.Refusal.TheVariants as Refusals
@@ -33,9 +37,8 @@ use Rattle.decoding.specs.declared.CheckedPair.{CheckedPair}
 use Rattle.decoding.specs.declared.CheckedPair.TheVariants as Pairs
 use Rattle.decoding.specs.Pairing.Grants.{half_up, half_down}
 use Rattle.decoding.specs.Pairing.Pairs.{Heads, Found, admitted, refused, found_of, allowance_judged, checked_pair, graph_of_both, first_frame, second_frame, pair_finds, pair_answer, first_after, second_after, AcceptsPair, DecodesPair}
-use Rattle.pairing.specs.Exact.{rules_of}
-use Rattle.pairing.proofs.Halts.{RunsGranted}
-use Rattle.decoding.proofs.Pairing.Finding.{all_told, first_refused, second_judged, graph_good, second_only}
+use Rattle.pairing.specs.Exact.{rules_of, RunsGranted}
+use Rattle.decoding.proofs.Pairing.Finding.{found_refused, all_told, first_refused, second_judged, graph_good, second_only}
 
 -- ---- the answer of `accept`
 
@@ -77,10 +80,6 @@ module _ (P : Heads) (m m' : Room) {d d' : List ℕ} {a : Checked} (first : Deco
 
 -- ---- the answers of `decode`, from what `accept` answers
 
-pub found_refused : (f : Found) (s s' : Settings) {p : Party} {r : Refusal} → checked_pair f s s' ≡ Pairs.Refused p r → f ≡ refused p r
-found_refused admitted s s' h = let z : ◌≡◌ {A = ℕ} 0 1 = cc in absurd (omega arith)
-found_refused (refused q x) s s' h = ap₂ refused (cc) (cc)
-
 pub found_good : (f : Found) (s s' : Settings) {t t' : Settings} → checked_pair f s s' ≡ Pairs.Good t t' → (f ≡ admitted) × (s ≡ t) × (s' ≡ t')
 found_good admitted s s' h = (refl, cc, cc)
 found_good (refused q x) s s' h = let z : ◌≡◌ {A = ℕ} 0 1 = cc in absurd (omega arith)
@@ -119,6 +118,9 @@ module _ (P : Heads) (M N : Memory) {d d' : List ℕ} {a : CheckedPair} (accepts
 
     pub both_long : Long (graph_of_both P) M × Long (graph_of_both P) N
     both_long = (long_told (graph_of_both P) M (decode_room (first_frame P) M first_accepts refl), long_told (graph_of_both P) N (decode_room (second_frame P) N second_accepts refl))
+
+    pub allowed : P.allowance ≤ 510
+    allowed = leb-true P.allowance 510 (and_right (leb 2 P.allowance) (leb P.allowance 510) (unless_true (between 2 P.allowance 510) Refusals.Allowance heads_told.2))
 
     pub pair_ran : {M' N' : Memory} {r r' : Report}
         → RunsGranted s (graph_of_both P) P.first.values (half_up P.allowance) P.allowance (stop (graph_of_both P) (rules_of s' (graph_of_both P) P.second.values) s'.limit) r M M'

@@ -2,7 +2,7 @@
 use mathlib.Core.Path.{◌≡◌, refl, sym, ap, ap₂, ◌∙◌, subst}
 use mathlib.Core.Bool.{Bool, true, false, not, cond}
 use mathlib.Core.List.{List, map}
-use Prim.Native.Nat.{ℕ, zero, suc, ◌+◌, ◌*◌, ◌≤◌, ◌<◌, min}
+use Prim.Native.Nat.{ℕ, zero, suc, ◌+◌, ◌-◌, ◌*◌, ◌≤◌, ◌<◌, min}
 use native.Mathlib.Decide.{dec_lt}
 use native.Mathlib.Nat.{zero-add}
 use native.Mathlib.Omega.{arith}
@@ -39,11 +39,10 @@ use Rattle.pausing.specs.Records.{is_open, record_at, record_of}
 use Rattle.pausing.specs.Pausing.{handed, within_judged, refilled}
 use Rattle.pausing.specs.Exact.{Long, BeginsInto, AdvancesInto}
 use Rattle.pausing.proofs.Carrying.{kept, messages_small, list_lengths, taken_within, open_is, open_below, carried, refilled_is}
-use Rattle.decoding.specs.Pairing.Grants.{grant, half_up, half_down}
-use Rattle.grants.specs.Counts.{second_count, first_more, verdict_of, report_of}
-use Rattle.pairing.specs.Exact.{rules_of, HaltsAt}
+use Rattle.decoding.specs.Pairing.Grants.{grant}
+use Rattle.pairing.specs.Exact.{rules_of, HaltsAt, left_by, verdict_of, report_of, RunsGranted}
 use Rattle.decoding.proofs.Pairing.Alone.{final_at, stop_at}
-use Rattle.grants.proofs.Counting.{first_granted, second_granted}
+use Rattle.pairing.proofs.Granting.{beyond, not_beyond}
 
 -- ---- the run halted
 
@@ -78,9 +77,26 @@ module _ (G : Graph) (R : Scheme) (limit : ℕ) where
   below_limit : (k : ℕ) → is_open (record_at_halt k).standing ≡ true → (halted G R limit k).iteration < limit
   below_limit k o = open_below G R limit (halted G R limit k) ((run_halts G R limit).early k (open_early k o)).1
 
-  -- the record says how many it took
-  pub taken_is : (k : ℕ) {r : Run} → r ≡ record_at_halt k → r.iterations ≡ min k (stop G R limit)
-  taken_is k e = ap (λ (r : Run). r.iterations) e ∙ number_at k
+  -- what the other left, halted at its half with the record r
+  pub left_is : (half half' T own : ℕ) → half + half' ≡ T → {r : Run} → r ≡ record_at_halt half' → min (half + left_by T half r) own ≡ grant half T own (stop G R limit)
+  left_is half half' T own e {r} f = go (is_open r.standing) refl
+    where
+      number : r.iterations ≡ min half' (stop G R limit)
+      number = ap (λ (r : Run). r.iterations) f ∙ number_at half'
+
+      standing : (b : Bool) → is_open r.standing ≡ b → is_open (record_at_halt half').standing ≡ b
+      standing b o = ap (λ (r : Run). is_open r.standing) (sym f) ∙ o
+
+      go : (b : Bool) → is_open r.standing ≡ b → min (half + left_by T half r) own ≡ grant half T own (stop G R limit)
+      go true o = ap (λ b. min (half + cond b 0 (T - half - r.iterations)) own) o ∙ not_beyond half half' T own (stop G R limit) e (open_early half' (standing true o))
+      go false o =
+          let l = finished_over half' (standing false o) in
+          let n : r.iterations ≡ stop G R limit = omega (arith, number) in
+          ap (λ b. min (half + cond b 0 (T - half - r.iterations)) own) o ∙ ap (λ (t : ℕ). min (half + (T - half - t)) own) n ∙ beyond half half' T own (stop G R limit) e l
+
+  -- and what it took fits beside this head's half
+  pub left_fits : (half half' T : ℕ) → half + half' ≡ T → {r : Run} → r ≡ record_at_halt half' → half + r.iterations ≤ T
+  left_fits half half' T e {r} f = omega (arith, ap (λ (r : Run). r.iterations) f ∙ number_at half')
 
   -- ---- under a limit g that it does not outlast
 
@@ -103,11 +119,6 @@ module _ (G : Graph) (R : Scheme) (limit : ℕ) where
         says false false = refl
 
 -- ---- in memory
-
--- a head's run under its grant: its report r, and the memory, M before and M' after; `other` is what the other head takes alone
-pub record RunsGranted (s : Settings) (G : Graph) (values : List ℕ) (half T other : ℕ) (r : Report) (M M' : Memory) : Type 0 where
-  pub report : r ≡ report G (rules_of s G values) (grant half T (stop G (rules_of s G values) s.limit) other)
-  pub memory : M' ≡ filled G.variables G.entries (levels_under s values) (final G (rules_of s G values) (grant half T (stop G (rules_of s G values) s.limit) other)) M
 
 module _ {s : Settings} (G : Graph) (values : List ℕ) (ready : Ready s G values) where
   abbrev R : Scheme
@@ -256,24 +267,3 @@ module _ {s : Settings} (G : Graph) (values : List ℕ) (ready : Ready s G value
 
       l : g ≤ stop G R limit
       l = omega arith
-
--- ---- both heads: the first up to its half, the second up to its own and what the first left, the first on by what the second left
-
-module _ {s s' : Settings} (G : Graph) (y y' : List ℕ) (ready : Ready s G y) (ready' : Ready s' G y') (T : ℕ) where
-  abbrev a : ℕ
-  a = stop G (rules_of s G y) s.limit
-
-  abbrev b : ℕ
-  b = stop G (rules_of s' G y') s'.limit
-
-  module _ {u : ℕ} {r : Run} {M M' : Memory} (eu : u ≡ half_up T) (begun : HaltsAt s G y u r M M') {k : ℕ} {r' : Run} {N N' : Memory} (ek : k ≡ second_count T r.iterations) (w' : HaltsAt s' G y' k r' N N') where
-    took : r.iterations ≡ min (half_up T) a
-    took = taken_is G (rules_of s G y) s.limit u begun.run ∙ ap (λ (u : ℕ). min u a) eu
-
-    pub second_runs : {ρ' : Report} → ρ' ≡ report_of r' → RunsGranted s' G y' (half_down T) T a ρ' N N'
-    second_runs f = runs_granted G y' ready' (half_down T) T a k (ap (λ (k : ℕ). min k b) (ek ∙ ap (second_count T) took) ∙ second_granted T b a) w' f
-
-    pub first_runs : {m : ℕ} {r'' : Run} {M'' : Memory} {ρ : Report} → m ≡ first_more T r'.iterations → HaltsAt s G y (r.iterations + m) r'' M' M'' → ρ ≡ report_of r'' → RunsGranted s G y (half_up T) T b ρ M M''
-    first_runs {m} em w f = runs_granted G y ready (half_up T) T b (u + m)
-        (ap₂ (λ (u m : ℕ). min (u + m) a) eu (em ∙ ap (first_more T) (taken_is G (rules_of s' G y') s'.limit k w'.run)) ∙ first_granted T a b k (omega (arith, ek)))
-        (halts_on G y ready u m begun w) f

@@ -1,2 +1,3 @@
+pub mod Granting
 pub mod Halts
 pub mod Deciding

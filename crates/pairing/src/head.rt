@@ -1,13 +1,15 @@
-// One head's run: begun and advanced, and advanced further by what the other head left.
-ghost use Rattle.std.specs.Prelude.{◌+◌};
+// One head's run: up to its half of the allowance, and on by what the other head left.
+ghost use Rattle.std.specs.Prelude.{◌≡◌, false, ◌+◌, ◌≤◌};
 ghost use Rattle.words.specs.Roles.{graph_of};
 ghost use Rattle.steps.specs.Steps.{Degrees};
 ghost use Rattle.decoding.specs.Frames.{memory};
 ghost use Rattle.decoder.specs.Runs.{Ready};
+ghost use Rattle.pausing.specs.Records.{is_open};
 ghost use Rattle.pausing.specs.Exact.{Long};
-ghost use Rattle.pairing.specs.Exact.{HaltsAt};
+ghost use Rattle.pairing.specs.Exact.{HaltsAt, left_by, verdict_of, report_of};
 
-use pausing::Run;
+use pausing::{Run, Standing};
+use rules::{Report, Verdict};
 use settings::Settings;
 
 // Advances a run by up to `count` iterations more; one that has finished stays. The values are those that it was begun with, and are not looked at.
@@ -53,9 +55,9 @@ pub fn go_further(
     )
 }
 
-// Begins the run of an accepted frame, and advances it by up to `count` iterations.
+// Begins the run of an accepted frame, and advances it by up to `half` iterations.
 pub fn start(
-    count: usize,
+    half: usize,
     s: Settings,
     n: usize,
     starts: &[u8],
@@ -70,7 +72,7 @@ pub fn start(
 ) -> Run
     requires ready { Ready s (graph_of n starts.now columns.now) values.now × Degrees (graph_of n starts.now columns.now) degrees.now }
     requires long { Long (graph_of n starts.now columns.now) (memory levels.old variable_messages.old check_messages.old sums.old bits.old) }
-    ensures { HaltsAt s (graph_of n starts.now columns.now) values.now count result (memory levels.old variable_messages.old check_messages.old sums.old bits.old) (memory levels.new variable_messages.new check_messages.new sums.new bits.new) }
+    ensures { HaltsAt s (graph_of n starts.now columns.now) values.now half result (memory levels.old variable_messages.old check_messages.old sums.old bits.old) (memory levels.new variable_messages.new check_messages.new sums.new bits.new) }
 {
     let run = pausing::exact::begin_within(
         s,
@@ -86,7 +88,7 @@ pub fn start(
     );
     go_further(
         run,
-        count,
+        half,
         s,
         n,
         starts,
@@ -99,4 +101,38 @@ pub fn start(
         sums,
         bits,
     )
+}
+
+// What the other head left of the allowance beyond this head's half: nothing while it is open, all that it did not take once it has finished.
+pub fn left_by(allowance: usize, half: usize, other: Run) -> usize
+    requires { is_open other.standing ≡ false → half + other.iterations ≤ allowance }
+    ensures { result ≡ left_by allowance half other }
+{
+    if other.is_open() {
+        return 0;
+    }
+    allowance - half - other.iterations
+}
+
+// One that is still open was cut short, and is stopped there.
+fn verdict_of(standing: Standing) -> Verdict
+    ensures { result ≡ verdict_of standing }
+{
+    match standing {
+        Standing::Codeword => Verdict::Codeword,
+        Standing::Stopped => Verdict::Stopped,
+        Standing::Open => Verdict::Stopped,
+    }
+}
+
+// The report of a run that goes no further.
+pub fn report_of(run: Run) -> Report
+    ensures { result ≡ report_of run }
+{
+    let standing = run.standing;
+    Report {
+        verdict: verdict_of(standing),
+        iterations: run.iterations,
+        unsatisfied: run.unsatisfied,
+    }
 }

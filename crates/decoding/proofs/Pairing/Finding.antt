@@ -7,12 +7,14 @@ use Rattle.refusals.specs.declared.Judged.{Judged}
 use Rattle.refusals.specs.declared.Judged.TheVariants as Judgement
 use Rattle.refusals.specs.declared.Refusal.{Refusal}
 use Rattle.graphs.specs.Judging.{graph_judged_in}
+use Rattle.settings.specs.declared.Settings.{Settings}
 use Rattle.decoding.specs.declared.Room.{Room}
 use Rattle.decoding.specs.Decoding.{decode_judged, decode_finds}
 use Rattle.decoding.proofs.Accepting.{frame_passed, memory_told}
+use Rattle.decoding.specs.declared.CheckedPair.TheVariants as Pairs
 use Rattle.decoding.specs.declared.Party.{Party}
 use Rattle.decoding.specs.declared.Party.TheVariants.{First, Second, Pair}
-use Rattle.decoding.specs.Pairing.Pairs.{Heads, Found, admitted, refused, found_of, allowance_judged, graph_of_both, first_frame, second_frame, pair_finds}
+use Rattle.decoding.specs.Pairing.Pairs.{Heads, Found, admitted, refused, found_of, allowance_judged, checked_pair, graph_of_both, first_frame, second_frame, pair_finds}
 
 found_told : (p : Party) (j : Judged) (rest : Found) → found_of p j rest ≡ admitted → (j ≡ Judgement.Admitted) × (rest ≡ admitted)
 found_told p Judgement.Admitted rest h = (refl, h)
@@ -45,3 +47,8 @@ module _ (P : Heads) (d : ℕ) (m m' : Room) where
     -- the graph was judged with the first head
     pub second_only : decode_finds (second_frame P) d m' ≡ decode_judged (second_frame P) Judgement.Admitted m'
     second_only = ap (λ g. decode_judged (second_frame P) g m') graph_good
+
+-- what the settings of both heads, or the refusal, tell of it
+pub found_refused : (f : Found) (s s' : Settings) {p : Party} {r : Refusal} → checked_pair f s s' ≡ Pairs.Refused p r → f ≡ refused p r
+found_refused admitted s s' h = let z : ◌≡◌ {A = ℕ} 0 1 = cc in absurd (omega arith)
+found_refused (refused q x) s s' h = ap₂ refused (cc) (cc)

@@ -28,18 +28,6 @@ advance_within-requires c =
     let o = sym c.is_open.ensures ∙ c.if-not-is_open.false in
     record { admissible = (ready.settings, ready.admitted, c.requires.ready.1); long = (c.requires.long, room_to_advance G c.args.values.now ready c.args.run M w o, omega (arith, c.if-count-eq0.false)); columns_value = (variable_within G c.args.values.now ready c.args.run M w, check_within_lem G c.args.values.now ready c.args.run M w) }
 
-pub shape_of-variable_messages : goal.shape_of-variable_messages
-shape_of-variable_messages c = c.advance_within.auto.variable_messages
-
-pub shape_of-check_messages : goal.shape_of-check_messages
-shape_of-check_messages c = c.advance_within.auto.check_messages
-
-pub shape_of-sums : goal.shape_of-sums
-shape_of-sums c = c.advance_within.auto.sums
-
-pub shape_of-bits : goal.shape_of-bits
-shape_of-bits c = c.advance_within.auto.bits
-
 pub returns : goal.returns
 returns c =
     let G : Graph = graph_of c.args.n c.args.starts.now c.args.columns.now in
