@@ -4,8 +4,8 @@
 #![tactic(auto)]
 
 use code_sheets::{Counts, Sheet, Written};
-use libc::{STDIN_FILENO, STDOUT_FILENO};
 use refusals::Refusal;
+use std::io::Write;
 use texts::{Mark, Number, Three};
 
 // The bytes of standard input that are read.
@@ -14,25 +14,25 @@ const INPUT: usize = 65_536;
 // Numbers from here on are too large: `lines` gives them all as this.
 const CAP: usize = 1_000_000_000;
 
-fn refuse(r: Refusal) {
+fn refuse<W: Write>(writer: &mut W, r: Refusal) {
     let mut out = [0u8; printing::LONGEST];
     let length = printing::put_refusal(&mut out, r);
-    io::write_all(STDOUT_FILENO, &out[..length]);
+    files::write_whole(writer, &out[..length]);
 }
 
-fn written(w: Written, text: &[u8]) {
+fn written<W: Write>(writer: &mut W, w: Written, text: &[u8]) {
     match w {
-        Written::Refused(r) => refuse(r),
+        Written::Refused(r) => refuse(writer, r),
         Written::Length(length) => {
             if length <= text.len() {
-                io::write_all(STDOUT_FILENO, &text[..length]);
+                files::write_whole(writer, &text[..length]);
             }
         }
     }
 }
 
 // The code sheet of a graph that was read.
-fn write_graph(counts: Counts, degrees: &mut [u8], starts: &[u8], columns: &[u8]) {
+fn write_graph<W: Write>(writer: &mut W, counts: Counts, degrees: &mut [u8], starts: &[u8], columns: &[u8]) {
     let mut text = [0u8; 40000];
     if counts.checks < starts.len() / 4 {
         if counts.entries <= columns.len() / 4 {
@@ -43,19 +43,19 @@ fn write_graph(counts: Counts, degrees: &mut [u8], starts: &[u8], columns: &[u8]
                 degrees,
                 &mut text,
             );
-            written(w, &text);
+            written(writer, w, &text);
         }
     }
 }
 
-fn read(text: &[u8]) {
+fn read<W: Write>(writer: &mut W, text: &[u8]) {
     let mut degrees = [0u8; 8000];
     let mut starts = [0u8; 8000];
     let mut columns = [0u8; 16000];
     let s = block_sheet::read(text, &mut degrees, &mut starts, &mut columns);
     match s {
-        Sheet::Refused(r) => refuse(r),
-        Sheet::Read(counts) => write_graph(counts, &mut degrees, &starts, &columns),
+        Sheet::Refused(r) => refuse(writer, r),
+        Sheet::Read(counts) => write_graph(writer, counts, &mut degrees, &starts, &columns),
     }
 }
 
@@ -96,18 +96,18 @@ fn entries(text: &[u8], from: usize, list: &mut [u8]) -> usize {
 }
 
 // An entry has 12 bytes in the list and at least 6 in the text, so there is room for all.
-fn write_entries(text: &[u8], from: usize, size: usize, rows: usize, columns: usize) {
+fn write_entries<W: Write>(writer: &mut W, text: &[u8], from: usize, size: usize, rows: usize, columns: usize) {
     let mut list = [0u8; 2 * INPUT];
     let length = entries(text, from, &mut list);
     if length <= list.len() {
         let mut degrees = [0u8; 8000];
         let mut out = [0u8; 40000];
         let w = block_writer::write(size, rows, columns, &list[..length], &mut degrees, &mut out);
-        written(w, &out);
+        written(writer, w, &out);
     }
 }
 
-fn write(text: &[u8]) {
+fn write<W: Write>(writer: &mut W, text: &[u8]) {
     let first = lines::fixed_at(b"size rows columns\n", text, 0);
     let Mark::After(i) = first else {
         return;
@@ -129,11 +129,11 @@ fn write(text: &[u8]) {
     if !small(size, rows, columns) {
         return;
     }
-    write_entries(text, at, size, rows, columns);
+    write_entries(writer, text, at, size, rows, columns);
 }
 
 // The trials of a text, up to a line that is none or a length past the end.
-fn trials(text: &[u8]) {
+fn trials<W: Write>(writer: &mut W, text: &[u8]) {
     let mut at = 0;
     while at < text.len() {
         let line = lines::field_at(text, at, b'\n');
@@ -144,14 +144,14 @@ fn trials(text: &[u8]) {
         if text.len() < end {
             return;
         }
-        read(&text[next..end]);
-        write(&text[next..end]);
+        read(writer, &text[next..end]);
+        write(writer, &text[next..end]);
         at = end;
     }
 }
 
-fn main() {
+fn main(rt: HostRuntime) {
     let mut text = [0u8; INPUT];
-    let length = io::read_full(STDIN_FILENO, &mut text);
-    trials(&text[..length]);
+    let reading = files::read_front(&mut rt.stdin(), &mut text);
+    trials(&mut rt.stdout(), &text[..reading.count]);
 }

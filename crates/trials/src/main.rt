@@ -2,17 +2,17 @@
 // A trial is a line with the lengths of its sheet and of its run text, then both.
 #![tactic(auto)]
 
-use libc::{STDIN_FILENO, STDOUT_FILENO};
+use std::io::Write;
 use texts::Line;
 
-fn trial(sheet: &[u8], run: &[u8]) {
+fn trial<W: Write>(writer: &mut W, sheet: &[u8], run: &[u8]) {
     let mut out = [0u8; printing::LONGEST];
     let length = program::answer(sheet, run, &mut out);
-    io::write_all(STDOUT_FILENO, &out[..length]);
+    files::write_whole(writer, &out[..length]);
 }
 
 // The trials of a text, up to a line that is none or lengths past the end.
-fn trials(text: &[u8]) {
+fn trials<W: Write>(writer: &mut W, text: &[u8]) {
     let mut at = 0;
     while at < text.len() {
         let line = lines::line_at(text, at);
@@ -29,13 +29,13 @@ fn trials(text: &[u8]) {
         if text.len() < end {
             return;
         }
-        trial(&text[next..middle], &text[middle..end]);
+        trial(writer, &text[next..middle], &text[middle..end]);
         at = end;
     }
 }
 
-fn main() {
+fn main(rt: HostRuntime) {
     let mut text = [0u8; 65536];
-    let length = io::read_full(STDIN_FILENO, &mut text);
-    trials(&text[..length]);
+    let reading = files::read_front(&mut rt.stdin(), &mut text);
+    trials(&mut rt.stdout(), &text[..reading.count]);
 }
