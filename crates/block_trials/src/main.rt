@@ -32,7 +32,13 @@ fn written<W: Write>(writer: &mut W, w: Written, text: &[u8]) {
 }
 
 // The code sheet of a graph that was read.
-fn write_graph<W: Write>(writer: &mut W, counts: Counts, degrees: &mut [u8], starts: &[u8], columns: &[u8]) {
+fn write_graph<W: Write>(
+    writer: &mut W,
+    counts: Counts,
+    degrees: &mut [u8],
+    starts: &[u8],
+    columns: &[u8],
+) {
     let mut text = [0u8; 40000];
     if counts.checks < starts.len() / 4 {
         if counts.entries <= columns.len() / 4 {
@@ -96,7 +102,14 @@ fn entries(text: &[u8], from: usize, list: &mut [u8]) -> usize {
 }
 
 // An entry has 12 bytes in the list and at least 6 in the text, so there is room for all.
-fn write_entries<W: Write>(writer: &mut W, text: &[u8], from: usize, size: usize, rows: usize, columns: usize) {
+fn write_entries<W: Write>(
+    writer: &mut W,
+    text: &[u8],
+    from: usize,
+    size: usize,
+    rows: usize,
+    columns: usize,
+) {
     let mut list = [0u8; 2 * INPUT];
     let length = entries(text, from, &mut list);
     if length <= list.len() {
