@@ -10,7 +10,7 @@ check:
 	rt check
 
 run:
-	rt check frame
+	cd crates/frame && rt run < /dev/null > /dev/null
 	bin/frame-in examples/frame < examples/frame/run.txt
 
 lib:
