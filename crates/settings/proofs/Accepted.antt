@@ -11,7 +11,6 @@ use Rattle.rules.specs.Nodes.{never}
 use Rattle.refusals.specs.Refusals.{unless, or_else}
 use Rattle.refusals.specs.declared.Refusal.TheVariants as Refusal
 use Rattle.refusals.specs.declared.Judged.{Judged}
-use Rattle.refusals.specs.declared.Judged.TheVariants as Judged
 use Rattle.refusals.proofs.Judging.{refused_not}
 use Rattle.rules.proofs.Tests.{and_left, and_right}
 use Rattle.rules.proofs.Own.{largest_within}

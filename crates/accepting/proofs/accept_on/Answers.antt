@@ -8,7 +8,7 @@ use Rattle.settings.specs.declared.Checked.TheVariants.{Good}
 use Rattle.settings.specs.Settings.{settings, settings_judged, checked, settings_of}
 use Rattle.settings.specs.Values.{values_judged}
 use Rattle.decoding.specs.Frames.{frame}
-use Rattle.decoding.specs.Decoding.{asked_judged, frame_judged}
+use Rattle.decoding.specs.Decoding.{frame_judged}
 use Rattle.decoding.proofs.Accepting.{length_refused, settings_refused, values_judged_lem, frame_asked, frame_exposed, frame_refused, memory_refused, all_admitted, answered, checked_refused, checked_good, blank_told}
 use Rattle.settings.specs.declared.Parameters.{Parameters}
 use Rattle.settings.specs.declared.Settings.{Settings}

@@ -1,4 +1,3 @@
-use Prim.Native.Nat.{◌-◌}
 use native.Mathlib.Omega.{arith}
 use Rattle.block_degrees.proofs.Heads.{clearing_none, clearing_long, clearing_room, clearing_more, clearing_all}
 use Rattle.block_degrees.proofs.clear.Goals as goal

@@ -1,5 +1,4 @@
 use mathlib.Core.Path.{◌≡◌, ap, ◌∙◌}
-use Prim.Native.Nat.{◌-◌}
 use native.Mathlib.Omega.{arith}
 use Rattle.rules.specs.Graphs.{limits, least_variable_degree, between}
 use Rattle.words.specs.Roles.{degree_at}
@@ -21,7 +20,7 @@ overflow_add-result c = omega (arith, looking_room c.loop-j.invariant (omega ari
 pub returns-then-not-in_range : goal.returns-then-not-in_range
 returns-then-not-in_range c =
     let found : c.in_range.result ≡ between least_variable_degree (degree_at c.args.degrees.now c.loop-j.v) limits.variable_degree = c.in_range.ensures ∙ ap (λ d. between least_variable_degree d limits.variable_degree) c.degree.ensures.0 in
-    looking_failed c.loop-j.invariant (found) (c.if-not-in_range.true) (omega arith)
+    looking_failed c.loop-j.invariant found c.if-not-in_range.true (omega arith)
 
 pub overflow_add-v : goal.overflow_add-v
 overflow_add-v c = omega (arith, looking_room c.loop-j.invariant (omega arith), c.requires.variables)
@@ -32,7 +31,7 @@ overflow_add-j c = omega (arith, looking_room c.loop-j.invariant (omega arith), 
 pub loop-j-preserved : goal.loop-j-preserved
 loop-j-preserved c =
     let found : c.in_range.result ≡ between least_variable_degree (degree_at c.args.degrees.now c.loop-j.v) limits.variable_degree = c.in_range.ensures ∙ ap (λ d. between least_variable_degree d limits.variable_degree) c.degree.ensures.0 in
-    looking_more c.loop-j.invariant (found) (c.if-not-in_range.false) (omega arith)
+    looking_more c.loop-j.invariant found c.if-not-in_range.false (omega arith)
 
 pub returns : goal.returns
 returns c = looking_all c.loop-j.invariant (omega arith)

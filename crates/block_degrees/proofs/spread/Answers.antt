@@ -1,4 +1,3 @@
-use Prim.Native.Nat.{◌-◌}
 use native.Mathlib.Omega.{arith}
 use Rattle.block_degrees.proofs.Spreading.{spreading_none, spreading_room, spreading_more, spreading_all}
 use Rattle.block_degrees.proofs.spread.Goals as goal

@@ -1,4 +1,4 @@
-use Prim.Native.Nat.{◌+◌, ◌-◌}
+use Prim.Native.Nat.{◌+◌}
 use native.Mathlib.Omega.{arith}
 use Rattle.block_rows.proofs.Putting.{along_none, along_more, along_all}
 use mathlib.Core.Path.{refl}

@@ -1,5 +1,4 @@
 use mathlib.Core.Path.{◌∙◌}
-use Prim.Native.Nat.{◌-◌}
 use native.Mathlib.Omega.{arith}
 use Rattle.block_rows.proofs.Putting.{row_none, row_more, row_all, place_below}
 use Rattle.block_rows.proofs.put_row.Goals as goal

@@ -1,5 +1,4 @@
 use mathlib.Core.Path.{◌∙◌}
-use Prim.Native.Nat.{◌-◌}
 use native.Mathlib.Omega.{arith}
 use Rattle.block_sheet.proofs.Counting.{lines_none, lines_known, lines_row, lines_place, lines_room, lines_more, lines_last, lines_all}
 use Rattle.block_sheet.proofs.count_lines.Goals as goal

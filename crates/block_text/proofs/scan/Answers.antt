@@ -7,7 +7,6 @@ use Rattle.texts.specs.Reading.{Lines}
 use Rattle.texts.specs.Places.{FixedAt}
 use native.Mathlib.Omega.{arith}
 use mathlib.Core.Path.{sym, subst}
-use Rattle.block_text.proofs.scan.Reads as reads
 use Rattle.block_text.proofs.scan.Goals as goal
 
 pub returns-in_default : goal.returns-in_default

@@ -5,7 +5,6 @@ use Rattle.texts.proofs.Passes.{scanning_none, scanning_end, scanning_many, scan
 use Rattle.rules.specs.Graphs.{limits}
 use native.Mathlib.Nat.{div-le_self}
 use native.Mathlib.Omega.{arith}
-use Prim.Native.Nat.{◌-◌}
 use mathlib.Core.Path.{subst}
 use Rattle.block_text.proofs.scan_blocks.Goals as goal
 

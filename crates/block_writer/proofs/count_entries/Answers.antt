@@ -1,5 +1,4 @@
 use mathlib.Core.Path.{◌∙◌}
-use Prim.Native.Nat.{◌-◌}
 use native.Mathlib.Omega.{arith}
 use Rattle.block_degrees.proofs.Counting.{counting_none}
 use Rattle.block_writer.proofs.Entries.{count_row, count_room, count_more, count_last, count_all}

@@ -1,4 +1,3 @@
-use Prim.Native.Nat.{◌-◌}
 use native.Mathlib.Omega.{arith}
 use Rattle.texts.specs.Triples.{triple}
 use Rattle.texts.proofs.Walking.{walking_none}

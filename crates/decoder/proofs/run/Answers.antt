@@ -1,7 +1,5 @@
 use native.Mathlib.Omega.{arith}
 use Rattle.decoder.proofs.Beginning.{begun_given, still_on, runs_ended, runs_on}
-use Rattle.running.proofs.go_on.Reads as go-on-reads
-use Rattle.steps.proofs.halts.Reads as halts-reads
 use Rattle.decoder.proofs.run.Goals as goal
 
 pub returns-then-halts : goal.returns-then-halts

@@ -1,5 +1,4 @@
 use mathlib.Core.Path.{◌≡◌, sym, ap, ◌∙◌}
-use Prim.Native.Nat.{◌-◌}
 use native.Mathlib.Omega.{arith}
 use Rattle.rules.specs.Graphs.{limits, least_variable_degree, between}
 use Rattle.refusals.proofs.Judging.{passed_none, passed_more, passed_all, failed_at}

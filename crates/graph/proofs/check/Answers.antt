@@ -12,15 +12,15 @@ returns-in-Refused c = checks_refused _ c.args.degrees.now (sym c.check_shape-j.
 
 pub returns-then-degrees-n : goal.returns-then-degrees-n
 returns-then-degrees-n c =
-    let shape : shape_judged limits ((graph_of c.args.n c.args.starts.now c.args.columns.now)) ≡ Judgement.Admitted = sym c.check_shape-j.ensures ∙ c.in_default.is in
-    checks_short _ c.args.degrees.now (shape) (omega arith)
+    let shape : shape_judged limits (graph_of c.args.n c.args.starts.now c.args.columns.now) ≡ Judgement.Admitted = sym c.check_shape-j.ensures ∙ c.in_default.is in
+    checks_short _ c.args.degrees.now shape (omega arith)
 
 pub judge_degrees-requires : goal.judge_degrees-requires
 judge_degrees-requires c =
-    let shape : shape_judged limits ((graph_of c.args.n c.args.starts.now c.args.columns.now)) ≡ Judgement.Admitted = sym c.check_shape-j.ensures ∙ c.in_default.is in
+    let shape : shape_judged limits (graph_of c.args.n c.args.starts.now c.args.columns.now) ≡ Judgement.Admitted = sym c.check_shape-j.ensures ∙ c.in_default.is in
     record { columns_value = shape; n_in_bounds = omega arith }
 
 pub returns : goal.returns
 returns c =
-    let shape : shape_judged limits ((graph_of c.args.n c.args.starts.now c.args.columns.now)) ≡ Judgement.Admitted = sym c.check_shape-j.ensures ∙ c.in_default.is in
-    checks_judged _ c.args.degrees.now (shape) (omega arith) c.judge_degrees.ensures
+    let shape : shape_judged limits (graph_of c.args.n c.args.starts.now c.args.columns.now) ≡ Judgement.Admitted = sym c.check_shape-j.ensures ∙ c.in_default.is in
+    checks_judged _ c.args.degrees.now shape (omega arith) c.judge_degrees.ensures

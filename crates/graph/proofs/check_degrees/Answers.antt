@@ -1,5 +1,4 @@
 use mathlib.Core.Path.{◌≡◌, sym, ◌∙◌}
-use Prim.Native.Nat.{◌-◌}
 use native.Mathlib.Omega.{arith}
 use native.Mathlib.Numerals.{add-one}
 use borrow.Author.Rules.{rules}
@@ -26,12 +25,12 @@ overflow_sub-start c =
 pub returns-then-not-in_range : goal.returns-then-not-in_range
 unfolding check_degrees_judged
 returns-then-not-in_range c =
-    let test : check_test limits ((graph_of c.args.n c.args.starts.now c.args.columns.now)) c.loop-i.i ≡ c.in_range.result = check_test_lem limits ((graph_of c.args.n c.args.starts.now c.args.columns.now)) c.loop-i.i c.start-in-loop-i.ensures.0 c.start.ensures.0 c.in_range.ensures in
+    let test : check_test limits (graph_of c.args.n c.args.starts.now c.args.columns.now) c.loop-i.i ≡ c.in_range.result = check_test_lem limits (graph_of c.args.n c.args.starts.now c.args.columns.now) c.loop-i.i c.start-in-loop-i.ensures.0 c.start.ensures.0 c.in_range.ensures in
     sym (failed_at c.loop-i.invariant.1 (test ∙ c.if-not-in_range.true) (omega arith))
 
 pub loop-i-preserved : goal.loop-i-preserved
 loop-i-preserved c =
-    let test : check_test limits ((graph_of c.args.n c.args.starts.now c.args.columns.now)) c.loop-i.i ≡ c.in_range.result = check_test_lem limits ((graph_of c.args.n c.args.starts.now c.args.columns.now)) c.loop-i.i c.start-in-loop-i.ensures.0 c.start.ensures.0 c.in_range.ensures in
+    let test : check_test limits (graph_of c.args.n c.args.starts.now c.args.columns.now) c.loop-i.i ≡ c.in_range.result = check_test_lem limits (graph_of c.args.n c.args.starts.now c.args.columns.now) c.loop-i.i c.start-in-loop-i.ensures.0 c.start.ensures.0 c.in_range.ensures in
     (search rules, passed_more c.loop-i.invariant.1 (test ∙ c.if-not-in_range.false))
 
 pub returns : goal.returns

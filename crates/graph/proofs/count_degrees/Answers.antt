@@ -1,6 +1,6 @@
 use mathlib.Core.Path.{◌≡◌, ap, ◌∙◌}
 use mathlib.Core.List.{◌++◌}
-use Prim.Native.Nat.{◌*◌, ◌-◌, ◌/◌, ◌<◌}
+use Prim.Native.Nat.{◌*◌, ◌/◌, ◌<◌}
 use native.Mathlib.Omega.{arith}
 use lib.ListN.{length, drop}
 use Rattle.words.specs.Words.{table}
@@ -15,12 +15,12 @@ loop-e-init c = let a = c.args in (omega arith, tallies_none 4 a.n (column_at a.
 pub add_one-requires : goal.add_one-requires
 add_one-requires c =
     let low : c.column.result < c.args.n = omega (arith, c.column.ensures.0, c.requires.by_index c.loop-e.e (omega arith)) in
-    let t = c.loop-e.invariant.1 in (omega (arith, low, tallies_long t), omega (arith, c.requires.n_in_bounds.1, tallies_small t (low) (omega (arith, c.requires.n_in_bounds.1))))
+    let t = c.loop-e.invariant.1 in (omega (arith, low, tallies_long t), omega (arith, c.requires.n_in_bounds.1, tallies_small t low (omega (arith, c.requires.n_in_bounds.1))))
 
 pub loop-e-preserved : goal.loop-e-preserved
 loop-e-preserved c =
     let low : c.column.result < c.args.n = omega (arith, c.column.ensures.0, c.requires.by_index c.loop-e.e (omega arith)) in
-    (omega arith, tallies_more c.loop-e.invariant.1 (low) (omega (arith, c.requires.n_in_bounds.1)) c.column.ensures.0 c.add_one.ensures)
+    (omega arith, tallies_more c.loop-e.invariant.1 low (omega (arith, c.requires.n_in_bounds.1)) c.column.ensures.0 c.add_one.ensures)
 
 pub shape_of-degrees : goal.shape_of-degrees
 shape_of-degrees c = c.loop-e.invariant.1.long ∙ c.degrees-1.given

@@ -1,5 +1,4 @@
 use mathlib.Core.Path.{refl, ◌∙◌}
-use Prim.Native.Nat.{◌-◌}
 use native.Mathlib.Omega.{arith}
 use Rattle.texts.proofs.Places.{fixed_end, fixed_short, fixed_not, fixed_on}
 use Rattle.lines.proofs.fixed_at.Goals as goal

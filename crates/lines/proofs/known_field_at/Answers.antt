@@ -1,6 +1,6 @@
 use mathlib.Core.Path.{refl}
 use native.Mathlib.Omega.{arith}
-use Prim.Native.Nat.{◌+◌, ◌-◌}
+use Prim.Native.Nat.{◌+◌}
 use Rattle.texts.proofs.Known.{Going, going_none, going_within, going_small, going_digit, going_on, ends_at}
 use Rattle.lines.proofs.known_field_at.Goals as goal
 
@@ -22,7 +22,7 @@ overflow_add-i c = omega (arith, going_within c.loop-i.invariant)
 pub bounds-s-i-in-loop-i-2 : goal.bounds-s-i-in-loop-i-2
 bounds-s-i-in-loop-i-2 c =
     let one : (let s = c.args in Going s.s.now s.at s.x c.with_digit-a.result (c.loop-i.i + 1)) = going_on c.loop-i.invariant c.loop-i-test.true c.with_digit-a.ensures refl in
-    going_within (one)
+    going_within one
 
 pub overflow_add-result : goal.overflow_add-result
 overflow_add-result c = omega (arith, going_within c.loop-i.invariant)
@@ -30,7 +30,7 @@ overflow_add-result c = omega (arith, going_within c.loop-i.invariant)
 pub returns-then-s-i : goal.returns-then-s-i
 returns-then-s-i c =
     let one : (let s = c.args in Going s.s.now s.at s.x c.with_digit-a.result (c.loop-i.i + 1)) = going_on c.loop-i.invariant c.loop-i-test.true c.with_digit-a.ensures refl in
-    ends_at (one) c.if-s-i.true (omega arith)
+    ends_at one c.if-s-i.true (omega arith)
 
 pub overflow_add-i-in-loop-i : goal.overflow_add-i-in-loop-i
 overflow_add-i-in-loop-i c = omega (arith, going_within c.loop-i.invariant)
@@ -38,7 +38,7 @@ overflow_add-i-in-loop-i c = omega (arith, going_within c.loop-i.invariant)
 pub bounds-s-i-in-loop-i-3 : goal.bounds-s-i-in-loop-i-3
 bounds-s-i-in-loop-i-3 c =
     let one : (let s = c.args in Going s.s.now s.at s.x c.with_digit-a.result (c.loop-i.i + 1)) = going_on c.loop-i.invariant c.loop-i-test.true c.with_digit-a.ensures refl in
-    going_within (one)
+    going_within one
 
 pub with_digit-b-requires : goal.with_digit-b-requires
 with_digit-b-requires c =
@@ -51,8 +51,8 @@ overflow_add-i-in-loop-i-2 c = omega (arith, going_within c.loop-i.invariant)
 pub bounds-s-i-in-loop-i-4 : goal.bounds-s-i-in-loop-i-4
 bounds-s-i-in-loop-i-4 c =
     let one : (let s = c.args in Going s.s.now s.at s.x c.with_digit-a.result (c.loop-i.i + 1)) = going_on c.loop-i.invariant c.loop-i-test.true c.with_digit-a.ensures refl in
-    let two : (let s = c.args in Going s.s.now s.at s.x c.with_digit-b.result (c.loop-i.i + 2)) = going_on (one) c.if-s-i.false c.with_digit-b.ensures (omega arith) in
-    going_within (two)
+    let two : (let s = c.args in Going s.s.now s.at s.x c.with_digit-b.result (c.loop-i.i + 2)) = going_on one c.if-s-i.false c.with_digit-b.ensures (omega arith) in
+    going_within two
 
 pub overflow_add-result-then-s-i-2 : goal.overflow_add-result-then-s-i-2
 overflow_add-result-then-s-i-2 c = omega (arith, going_within c.loop-i.invariant)
@@ -60,8 +60,8 @@ overflow_add-result-then-s-i-2 c = omega (arith, going_within c.loop-i.invariant
 pub returns-then-s-i-2 : goal.returns-then-s-i-2
 returns-then-s-i-2 c =
     let one : (let s = c.args in Going s.s.now s.at s.x c.with_digit-a.result (c.loop-i.i + 1)) = going_on c.loop-i.invariant c.loop-i-test.true c.with_digit-a.ensures refl in
-    let two : (let s = c.args in Going s.s.now s.at s.x c.with_digit-b.result (c.loop-i.i + 2)) = going_on (one) c.if-s-i.false c.with_digit-b.ensures (omega arith) in
-    ends_at (two) c.if-s-i-2.true (omega arith)
+    let two : (let s = c.args in Going s.s.now s.at s.x c.with_digit-b.result (c.loop-i.i + 2)) = going_on one c.if-s-i.false c.with_digit-b.ensures (omega arith) in
+    ends_at two c.if-s-i-2.true (omega arith)
 
 pub overflow_add-i-in-loop-i-3 : goal.overflow_add-i-in-loop-i-3
 overflow_add-i-in-loop-i-3 c = omega (arith, going_within c.loop-i.invariant)
@@ -69,13 +69,13 @@ overflow_add-i-in-loop-i-3 c = omega (arith, going_within c.loop-i.invariant)
 pub bounds-s-i-in-loop-i-5 : goal.bounds-s-i-in-loop-i-5
 bounds-s-i-in-loop-i-5 c =
     let one : (let s = c.args in Going s.s.now s.at s.x c.with_digit-a.result (c.loop-i.i + 1)) = going_on c.loop-i.invariant c.loop-i-test.true c.with_digit-a.ensures refl in
-    let two : (let s = c.args in Going s.s.now s.at s.x c.with_digit-b.result (c.loop-i.i + 2)) = going_on (one) c.if-s-i.false c.with_digit-b.ensures (omega arith) in
-    going_within (two)
+    let two : (let s = c.args in Going s.s.now s.at s.x c.with_digit-b.result (c.loop-i.i + 2)) = going_on one c.if-s-i.false c.with_digit-b.ensures (omega arith) in
+    going_within two
 
 pub with_digit-v-requires : goal.with_digit-v-requires
 with_digit-v-requires c =
     let one : (let s = c.args in Going s.s.now s.at s.x c.with_digit-a.result (c.loop-i.i + 1)) = going_on c.loop-i.invariant c.loop-i-test.true c.with_digit-a.ensures refl in
-    let two : (let s = c.args in Going s.s.now s.at s.x c.with_digit-b.result (c.loop-i.i + 2)) = going_on (one) c.if-s-i.false c.with_digit-b.ensures (omega arith) in
+    let two : (let s = c.args in Going s.s.now s.at s.x c.with_digit-b.result (c.loop-i.i + 2)) = going_on one c.if-s-i.false c.with_digit-b.ensures (omega arith) in
     let g = two in let d = going_digit g c.if-s-i-2.false in (going_small g, d.0, d.1)
 
 pub overflow_add-i-in-loop-i-4 : goal.overflow_add-i-in-loop-i-4
@@ -87,8 +87,8 @@ loop-i-smaller c = omega (arith, going_within c.loop-i.invariant)
 pub loop-i-preserved : goal.loop-i-preserved
 loop-i-preserved c =
     let one : (let s = c.args in Going s.s.now s.at s.x c.with_digit-a.result (c.loop-i.i + 1)) = going_on c.loop-i.invariant c.loop-i-test.true c.with_digit-a.ensures refl in
-    let two : (let s = c.args in Going s.s.now s.at s.x c.with_digit-b.result (c.loop-i.i + 2)) = going_on (one) c.if-s-i.false c.with_digit-b.ensures (omega arith) in
-    let three : (let s = c.args in Going s.s.now s.at s.x c.with_digit-v.result (c.loop-i.i + 3)) = going_on (two) c.if-s-i-2.false c.with_digit-v.ensures (omega arith) in
+    let two : (let s = c.args in Going s.s.now s.at s.x c.with_digit-b.result (c.loop-i.i + 2)) = going_on one c.if-s-i.false c.with_digit-b.ensures (omega arith) in
+    let three : (let s = c.args in Going s.s.now s.at s.x c.with_digit-v.result (c.loop-i.i + 3)) = going_on two c.if-s-i-2.false c.with_digit-v.ensures (omega arith) in
     three
 
 pub overflow_add-result-2 : goal.overflow_add-result-2

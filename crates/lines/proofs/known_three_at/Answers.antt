@@ -1,7 +1,5 @@
 use native.Mathlib.Omega.{arith}
 use Rattle.texts.proofs.Triples.{known_number, known_pair, triple_read}
-use Rattle.lines.proofs.known_field_at.Reads as known-field-at-reads
-use Rattle.lines.proofs.known_line_at.Reads as known-line-at-reads
 use Rattle.lines.proofs.known_three_at.Goals as goal
 
 pub known_field_at-a-requires : goal.known_field_at-a-requires

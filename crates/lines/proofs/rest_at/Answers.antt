@@ -2,7 +2,6 @@ use mathlib.Core.Path.{◌∙◌}
 use Prim.Native.Nat.{◌+◌, ◌-◌, ◌*◌}
 use native.Mathlib.Omega.{arith}
 use lib.ListN.{get_or}
-use Rattle.texts.specs.Numbers.{number}
 use Rattle.texts.proofs.Numbers.{digit_true}
 use Rattle.texts.proofs.Places.{more_end, more_stop, more_on, digit_low, digit_high}
 use Rattle.lines.proofs.rest_at.Goals as goal

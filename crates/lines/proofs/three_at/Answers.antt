@@ -3,8 +3,6 @@ use lib.ListN.{drop}
 use Rattle.texts.specs.Lines.{space, field}
 use Rattle.texts.specs.Places.{NumberAt, LineAt}
 use Rattle.texts.proofs.Triples.{triple_first, triple_rest, triple_read}
-use Rattle.lines.proofs.field_at.Reads as field-at-reads
-use Rattle.lines.proofs.line_at.Reads as line-at-reads
 use Rattle.lines.proofs.three_at.Goals as goal
 
 pub returns-in_default : goal.returns-in_default

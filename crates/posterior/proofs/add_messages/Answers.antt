@@ -1,7 +1,7 @@
 use mathlib.Core.Path.{ap, ◌∙◌}
-use Prim.Native.Nat.{◌<◌, ◌-◌, ◌+◌, ◌/◌, ◌^◌}
+use Prim.Native.Nat.{◌<◌, ◌+◌, ◌/◌, ◌^◌}
 use native.Mathlib.Omega.{arith}
-use lib.IntN.{ℤ, nat_abs, ◌+ℤ◌}
+use lib.IntN.{nat_abs, ◌+ℤ◌}
 use lib.ListN.{length, get_or}
 use Rattle.nodes.specs.Lists.{part_in}
 use Rattle.nodes.proofs.Signed.{plus_fits, plus_is}
@@ -28,8 +28,8 @@ bounds-parts-messages c = omega (arith, c.requires.messages_len.2.long, c.shared
 pub overflow_add-sum : goal.overflow_add-sum
 overflow_add-sum c =
     let low : c.column-v.result < length c.args.sums.now / 4 = rw c.column-v.ensures.0 (c.requires.by_index c.loop-e.e (omega arith)) in
-    let few : nat_abs c.sum.result + nat_abs ((let a = c.args in part_in a.parts.now a.messages.now c.loop-e.e)) < 2 ^ 31 = let l = c.loop-e in omega (arith, ap nat_abs c.sum.ensures, c.requires.messages_len.2.small (get_or c.args.messages.now l.e 0), added_small c.args.columns.now (part_in c.args.parts.now c.args.messages.now) c.args.sums.now (λ k. c.requires.messages_len.2.small (get_or c.args.messages.now k 0)) c.requires.by_index_2 (omega arith) l.invariant.1 (low)) in
-    plus_fits c.sum.result ((let a = c.args in part_in a.parts.now a.messages.now c.loop-e.e)) (few)
+    let few : nat_abs c.sum.result + nat_abs (let a = c.args in part_in a.parts.now a.messages.now c.loop-e.e) < 2 ^ 31 = let l = c.loop-e in omega (arith, ap nat_abs c.sum.ensures, c.requires.messages_len.2.small (get_or c.args.messages.now l.e 0), added_small c.args.columns.now (part_in c.args.parts.now c.args.messages.now) c.args.sums.now (λ k. c.requires.messages_len.2.small (get_or c.args.messages.now k 0)) c.requires.by_index_2 (omega arith) l.invariant.1 low) in
+    plus_fits c.sum.result (let a = c.args in part_in a.parts.now a.messages.now c.loop-e.e) few
 
 pub put_sum-requires : goal.put_sum-requires
 put_sum-requires c =
@@ -39,11 +39,11 @@ put_sum-requires c =
 pub loop-e-preserved : goal.loop-e-preserved
 loop-e-preserved c =
     let low : c.column-v.result < length c.args.sums.now / 4 = rw c.column-v.ensures.0 (c.requires.by_index c.loop-e.e (omega arith)) in
-    let few : nat_abs c.sum.result + nat_abs ((let a = c.args in part_in a.parts.now a.messages.now c.loop-e.e)) < 2 ^ 31 = let l = c.loop-e in omega (arith, ap nat_abs c.sum.ensures, c.requires.messages_len.2.small (get_or c.args.messages.now l.e 0), added_small c.args.columns.now (part_in c.args.parts.now c.args.messages.now) c.args.sums.now (λ k. c.requires.messages_len.2.small (get_or c.args.messages.now k 0)) c.requires.by_index_2 (omega arith) l.invariant.1 (low)) in
+    let few : nat_abs c.sum.result + nat_abs (let a = c.args in part_in a.parts.now a.messages.now c.loop-e.e) < 2 ^ 31 = let l = c.loop-e in omega (arith, ap nat_abs c.sum.ensures, c.requires.messages_len.2.small (get_or c.args.messages.now l.e 0), added_small c.args.columns.now (part_in c.args.parts.now c.args.messages.now) c.args.sums.now (λ k. c.requires.messages_len.2.small (get_or c.args.messages.now k 0)) c.requires.by_index_2 (omega arith) l.invariant.1 low) in
     let l = c.loop-e in (
       omega arith,
-      added_more c.args.columns.now (part_in c.args.parts.now c.args.messages.now) c.args.sums.now (λ k. c.requires.messages_len.2.small (get_or c.args.messages.now k 0)) c.requires.by_index_2 (omega arith) l.invariant.1 (low) c.column-v.ensures.0
-          (plus_is c.sum.result ((let a = c.args in part_in a.parts.now a.messages.now c.loop-e.e)) (few) ∙ ap (λ x. x +ℤ (let a = c.args in part_in a.parts.now a.messages.now c.loop-e.e)) c.sum.ensures) c.put_sum.ensures,
+      added_more c.args.columns.now (part_in c.args.parts.now c.args.messages.now) c.args.sums.now (λ k. c.requires.messages_len.2.small (get_or c.args.messages.now k 0)) c.requires.by_index_2 (omega arith) l.invariant.1 low c.column-v.ensures.0
+          (plus_is c.sum.result (let a = c.args in part_in a.parts.now a.messages.now c.loop-e.e) few ∙ ap (λ x. x +ℤ (let a = c.args in part_in a.parts.now a.messages.now c.loop-e.e)) c.sum.ensures) c.put_sum.ensures,
     )
 
 pub shape_of-sums : goal.shape_of-sums

@@ -17,7 +17,7 @@ overflow_sub-result c = neg_fits (size c.args.b c.args.e) (omega arith)
 
 pub returns-then-b-ge128 : goal.returns-then-b-ge128
 unfolding contribution level_of
-returns-then-b-ge128 c = to_z-of_z ((neg_fits (size c.args.b c.args.e) (omega arith))) ∙ zero_minus (size c.args.b c.args.e) (omega arith) ∙ simp (le-leb _ _ c.if-b-ge128.true)
+returns-then-b-ge128 c = to_z-of_z (neg_fits (size c.args.b c.args.e) (omega arith)) ∙ zero_minus (size c.args.b c.args.e) (omega arith) ∙ simp (le-leb _ _ c.if-b-ge128.true)
 
 pub returns-else-b-ge128 : goal.returns-else-b-ge128
 unfolding contribution level_of

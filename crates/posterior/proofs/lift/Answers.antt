@@ -24,5 +24,5 @@ returns c =
     let W = c.args.to in
     halves_set c.requires.2 c.requires.0
     (to_z_pos w32 {n = 2 * W + 1} (omega arith) ∙ lifted_plus m W c.requires.0)
-    (to_z-of_z ((neg_fits (2 * c.args.to + 1) (omega arith))) ∙ zero_minus (2 * W + 1) (omega arith) ∙ lifted_minus m W c.requires.0)
+    (to_z-of_z (neg_fits (2 * c.args.to + 1) (omega arith)) ∙ zero_minus (2 * W + 1) (omega arith) ∙ lifted_minus m W c.requires.0)
     (lifted_other m W)

@@ -1,5 +1,5 @@
 use mathlib.Core.Path.{sym, ◌∙◌}
-use Prim.Native.Nat.{◌+◌, ◌*◌, ◌-◌}
+use Prim.Native.Nat.{◌+◌, ◌*◌}
 use native.Mathlib.Omega.{arith}
 use lib.ListN.{length-set}
 use Rattle.rules.specs.Nodes.{contribution}
@@ -28,7 +28,7 @@ loop-m-preserved c =
       omega arith,
       made_more (contribution 1) (omega arith) c.loop-m.invariant.1
           (to_z_pos w32 {n = 2 * m + 1} (omega arith) ∙ contribution_plus m (omega arith))
-          (to_z-of_z ((neg_fits (2 * c.loop-m.m + 1) (omega arith))) ∙ zero_minus (2 * m + 1) (omega arith) ∙ contribution_minus m (omega arith)),
+          (to_z-of_z (neg_fits (2 * c.loop-m.m + 1) (omega arith)) ∙ zero_minus (2 * m + 1) (omega arith) ∙ contribution_minus m (omega arith)),
     )
 
 pub shape_of-parts : goal.shape_of-parts

@@ -1,4 +1,3 @@
-use Prim.Native.Nat.{◌-◌}
 use Rattle.printing.proofs.Parts.{bits_none, bits_long, bits_more, bits_all}
 use native.Mathlib.Omega.{arith}
 use Rattle.printing.proofs.put_bits.Goals as goal

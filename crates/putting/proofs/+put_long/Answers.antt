@@ -1,4 +1,3 @@
-use mathlib.Core.Path.{◌∙◌}
 use native.Mathlib.Omega.{arith}
 use Rattle.texts.proofs.Putting.{one_digit, more_digits, put_long, put_only, put_last}
 use Rattle.putting.proofs.+put_long.Goals as goal

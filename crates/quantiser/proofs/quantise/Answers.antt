@@ -1,5 +1,5 @@
 use mathlib.Core.Path.{ap, ◌∙◌}
-use Prim.Native.Nat.{◌-◌, min}
+use Prim.Native.Nat.{min}
 use native.Mathlib.Omega.{arith}
 use Rattle.rules.specs.Levels.{byte}
 use Rattle.rules.proofs.Filling.{filled_none, filled_more, filled_end}

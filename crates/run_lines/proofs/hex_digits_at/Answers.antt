@@ -1,4 +1,3 @@
-use Prim.Native.Nat.{◌-◌}
 use Rattle.run_lines.proofs.Words.{reading_none, reading_all, reading_end, reading_not, reading_fits, reading_more}
 use native.Mathlib.Omega.{arith}
 use Rattle.run_lines.proofs.hex_digits_at.Goals as goal

@@ -1,5 +1,4 @@
 use mathlib.Core.Path.{subst}
-use Prim.Native.Nat.{◌-◌}
 use Rattle.texts.specs.Lines.{lf}
 use Rattle.program_texts.specs.RunText.Texts.{pattern}
 use Rattle.run_lines.specs.Places.{WordAt}

@@ -1,9 +1,7 @@
 use mathlib.Core.Path.{◌≡◌, sym, ap, ◌∙◌}
-use Prim.Native.Nat.{◌-◌}
 use native.Mathlib.Omega.{arith}
 use borrow.Author.Rules.{rules}
 use Rattle.refusals.specs.Refusals.{each}
-use Rattle.refusals.specs.declared.Judged.TheVariants as Judgement
 use Rattle.refusals.proofs.Judging.{each_none, each_more, each_at}
 use Rattle.graphs.specs.Judging.{rows_judged}
 use Rattle.words.specs.Roles.{graph_of}
@@ -22,14 +20,14 @@ check_row-j-requires c =
 pub returns-in-Refused : goal.returns-in-Refused
 unfolding rows_judged
 returns-in-Refused c =
-    let row : row_judged ((graph_of c.args.n c.args.starts.now c.args.columns.now)) c.loop-i.i ≡ c.check_row-j.result = row_test ((graph_of c.args.n c.args.starts.now c.args.columns.now)) c.loop-i.i _ _ c.start.ensures.0 c.start-in-loop-i.ensures.0 c.check_row-j.ensures in
+    let row : row_judged (graph_of c.args.n c.args.starts.now c.args.columns.now) c.loop-i.i ≡ c.check_row-j.result = row_test (graph_of c.args.n c.args.starts.now c.args.columns.now) c.loop-i.i _ _ c.start.ensures.0 c.start-in-loop-i.ensures.0 c.check_row-j.ensures in
     sym (each_at _ c.loop-i.i _ _
     c.loop-i.invariant.1 (row ∙ c.in-Refused.is)
     (omega arith))
 
 pub loop-i-preserved : goal.loop-i-preserved
 loop-i-preserved c =
-    let row : row_judged ((graph_of c.args.n c.args.starts.now c.args.columns.now)) c.loop-i.i ≡ c.check_row-j.result = row_test ((graph_of c.args.n c.args.starts.now c.args.columns.now)) c.loop-i.i _ _ c.start.ensures.0 c.start-in-loop-i.ensures.0 c.check_row-j.ensures in (
+    let row : row_judged (graph_of c.args.n c.args.starts.now c.args.columns.now) c.loop-i.i ≡ c.check_row-j.result = row_test (graph_of c.args.n c.args.starts.now c.args.columns.now) c.loop-i.i _ _ c.start.ensures.0 c.start-in-loop-i.ensures.0 c.check_row-j.ensures in (
       search rules,
       each_more _ _ c.loop-i.invariant.1 (row ∙ c.in_default.is),
     )

@@ -1,5 +1,4 @@
 use mathlib.Core.Path.{◌≡◌, sym, ◌∙◌}
-use Prim.Native.Nat.{◌-◌}
 use native.Mathlib.Omega.{arith}
 use native.Mathlib.Nat.{add-sub_cancel}
 use borrow.Author.Rules.{rules}
@@ -22,12 +21,12 @@ start-s-requires c = omega (arith, (counts_told _ c.requires).checks)
 pub returns-then-not-start_good : goal.returns-then-not-start_good
 unfolding starts_judged
 returns-then-not-start_good c =
-    let test : test_of_start ((graph_of c.args.n c.args.starts.now c.args.columns.now)) c.loop-next.next ≡ c.start_good.result = start_test ((graph_of c.args.n c.args.starts.now c.args.columns.now)) c.loop-next.next _ _ _ c.checks-m.ensures c.loop-next.invariant.1 c.start-s.ensures.0 c.start_good.ensures in
+    let test : test_of_start (graph_of c.args.n c.args.starts.now c.args.columns.now) c.loop-next.next ≡ c.start_good.result = start_test (graph_of c.args.n c.args.starts.now c.args.columns.now) c.loop-next.next _ _ _ c.checks-m.ensures c.loop-next.invariant.1 c.start-s.ensures.0 c.start_good.ensures in
     sym (failed_at c.loop-next.invariant.2 (test ∙ c.if-not-start_good.true) (omega arith))
 
 pub loop-next-preserved : goal.loop-next-preserved
 loop-next-preserved c =
-    let test : test_of_start ((graph_of c.args.n c.args.starts.now c.args.columns.now)) c.loop-next.next ≡ c.start_good.result = start_test ((graph_of c.args.n c.args.starts.now c.args.columns.now)) c.loop-next.next _ _ _ c.checks-m.ensures c.loop-next.invariant.1 c.start-s.ensures.0 c.start_good.ensures in (
+    let test : test_of_start (graph_of c.args.n c.args.starts.now c.args.columns.now) c.loop-next.next ≡ c.start_good.result = start_test (graph_of c.args.n c.args.starts.now c.args.columns.now) c.loop-next.next _ _ _ c.checks-m.ensures c.loop-next.invariant.1 c.start-s.ensures.0 c.start_good.ensures in (
       search rules,
       rw add-sub_cancel c.start-s.ensures.0,
       passed_more c.loop-next.invariant.2 (test ∙ c.if-not-start_good.false),

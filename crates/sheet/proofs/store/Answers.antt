@@ -1,4 +1,4 @@
-use Prim.Native.Nat.{◌+◌, ◌-◌}
+use Prim.Native.Nat.{◌+◌}
 use native.Mathlib.Omega.{arith}
 use Rattle.words.specs.Roles.{wide}
 use Rattle.words.proofs.Filling.{Filled, filled_more}
@@ -40,7 +40,7 @@ fill-requires-2 c = (omega (arith, c.loop-k.invariant.1.pass.at.high), omega (ar
 pub shape_of-starts : goal.shape_of-starts
 shape_of-starts c =
     let last : Filled wide (start_in c.loop-k.invariant.1.pass.held.entries) c.args.starts.now c.fill-2.new.starts (c.args.counts.checks + 1) = let q = c.loop-k.invariant.1 in c.fill-2.ensures (start_in q.pass.held.entries) c.args.starts.now q.starts_are (λ j l u. pass_ends q.pass (omega arith) j l) in
-    (last).long
+    last.long
 
 pub shape_of-columns : goal.shape_of-columns
 shape_of-columns c = c.loop-k.invariant.1.columns_are.long
@@ -48,4 +48,4 @@ shape_of-columns c = c.loop-k.invariant.1.columns_are.long
 pub returns : goal.returns
 returns c =
     let last : Filled wide (start_in c.loop-k.invariant.1.pass.held.entries) c.args.starts.now c.fill-2.new.starts (c.args.counts.checks + 1) = let q = c.loop-k.invariant.1 in c.fill-2.ensures (start_in q.pass.held.entries) c.args.starts.now q.starts_are (λ j l u. pass_ends q.pass (omega arith) j l) in
-    stage_all c.loop-k.invariant.1 (omega arith) (last)
+    stage_all c.loop-k.invariant.1 (omega arith) last

@@ -1,5 +1,4 @@
 use mathlib.Core.Path.{◌∙◌}
-use Prim.Native.Nat.{◌-◌}
 use native.Mathlib.Omega.{arith}
 use Rattle.sheet_lines.proofs.Counting.{counting_none, counting_ahead, counting_addable, counting_more, counting_last, counting_refused, counting_admitted}
 use borrow.Author.Rules.{rules}

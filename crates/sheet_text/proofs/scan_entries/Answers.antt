@@ -1,5 +1,5 @@
 use mathlib.Core.Path.{sym, ◌∙◌, subst}
-use Prim.Native.Nat.{◌+◌, ◌-◌}
+use Prim.Native.Nat.{◌+◌}
 use native.Mathlib.Omega.{arith}
 use Rattle.texts.specs.Lines.{pair}
 use Rattle.texts.specs.Places.{LineAt}

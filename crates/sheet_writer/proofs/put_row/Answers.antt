@@ -1,4 +1,3 @@
-use Prim.Native.Nat.{◌-◌}
 use native.Mathlib.Omega.{arith}
 use borrow.Author.Rules.{rules}
 use Rattle.rules.specs.Graphs.{check_degree}
@@ -19,7 +18,7 @@ pub put_line-next-requires : goal.put_line-next-requires
 put_line-next-requires c =
     let o = c.loop-k in
     let e = row_line o.k o.invariant.0 c.column.ensures.0 in
-    put_room (check_degree ((graph_of c.args.n c.args.starts.now c.args.columns.now)) c.args.i) (row_lines_lem ((graph_of c.args.n c.args.starts.now c.args.columns.now)) c.args.i) o.invariant.2 c.requires.i_in_bounds (omega arith) e
+    put_room (check_degree (graph_of c.args.n c.args.starts.now c.args.columns.now) c.args.i) (row_lines_lem (graph_of c.args.n c.args.starts.now c.args.columns.now) c.args.i) o.invariant.2 c.requires.i_in_bounds (omega arith) e
 
 pub loop-k-preserved : goal.loop-k-preserved
 loop-k-preserved c =
@@ -31,4 +30,4 @@ pub shape_of-text : goal.shape_of-text
 shape_of-text c = put_long c.loop-k.invariant.2.put
 
 pub returns : goal.returns
-returns c = put_all (omega arith) (row_lines_lem ((graph_of c.args.n c.args.starts.now c.args.columns.now)) c.args.i) c.loop-k.invariant.2
+returns c = put_all (omega arith) (row_lines_lem (graph_of c.args.n c.args.starts.now c.args.columns.now) c.args.i) c.loop-k.invariant.2

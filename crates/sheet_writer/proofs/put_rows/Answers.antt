@@ -1,5 +1,4 @@
 use mathlib.Core.Path.{refl}
-use Prim.Native.Nat.{◌-◌}
 use native.Mathlib.Omega.{arith}
 use borrow.Author.Rules.{rules}
 use Rattle.words.specs.Roles.{graph_of}
@@ -15,7 +14,7 @@ pub loop-i-init : goal.loop-i-init
 loop-i-init c = (search rules, put_begun)
 
 pub put_row-next-requires : goal.put_row-next-requires
-put_row-next-requires c = record { admitted = (c.requires.admitted, omega arith); i_in_bounds = put_room ((graph_of c.args.n c.args.starts.now c.args.columns.now)).checks (all_lines ((graph_of c.args.n c.args.starts.now c.args.columns.now))) c.loop-i.invariant.1 c.requires.columns_in_bounds (omega arith) refl }
+put_row-next-requires c = record { admitted = (c.requires.admitted, omega arith); i_in_bounds = put_room (graph_of c.args.n c.args.starts.now c.args.columns.now).checks (all_lines (graph_of c.args.n c.args.starts.now c.args.columns.now)) c.loop-i.invariant.1 c.requires.columns_in_bounds (omega arith) refl }
 
 pub loop-i-preserved : goal.loop-i-preserved
 loop-i-preserved c = (search rules, put_next c.loop-i.invariant.1 c.put_row-next.ensures refl)
@@ -24,4 +23,4 @@ pub shape_of-text : goal.shape_of-text
 shape_of-text c = put_long c.loop-i.invariant.1.put
 
 pub returns : goal.returns
-returns c = put_all (omega arith) (all_lines ((graph_of c.args.n c.args.starts.now c.args.columns.now))) c.loop-i.invariant.1
+returns c = put_all (omega arith) (all_lines (graph_of c.args.n c.args.starts.now c.args.columns.now)) c.loop-i.invariant.1

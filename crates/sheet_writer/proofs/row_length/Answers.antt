@@ -1,5 +1,4 @@
 use mathlib.Core.Path.{sym, ap, ◌∙◌}
-use Prim.Native.Nat.{◌-◌}
 use native.Mathlib.Omega.{arith}
 use borrow.Author.Rules.{rules}
 use lib.ListN.{length}
@@ -25,4 +24,4 @@ loop-k-preserved c =
 pub returns : goal.returns
 returns c =
     let o = c.loop-k in
-    (summed_all o.invariant.2 (omega arith) ∙ ap length (sym (row_lines_lem ((graph_of c.args.n c.args.starts.now c.args.columns.now)) c.args.i)), omega arith)
+    (summed_all o.invariant.2 (omega arith) ∙ ap length (sym (row_lines_lem (graph_of c.args.n c.args.starts.now c.args.columns.now) c.args.i)), omega arith)

@@ -1,5 +1,4 @@
 use mathlib.Core.Path.{sym, ap, ◌∙◌}
-use Prim.Native.Nat.{◌-◌}
 use native.Mathlib.Omega.{arith}
 use borrow.Author.Rules.{rules}
 use lib.ListN.{length}
@@ -25,6 +24,6 @@ loop-i-preserved c = (search rules, summed_more c.loop-i.invariant.1 c.row_lengt
 
 pub returns : goal.returns
 returns c = (
-  summed_all c.loop-i.invariant.1 (omega arith) ∙ ap length (sym (all_lines ((graph_of c.args.n c.args.starts.now c.args.columns.now)))),
+  summed_all c.loop-i.invariant.1 (omega arith) ∙ ap length (sym (all_lines (graph_of c.args.n c.args.starts.now c.args.columns.now))),
   omega (arith, c.requires.checks.1),
 )

@@ -12,7 +12,7 @@ pub shape_of-work-then-not-prepare : goal.shape_of-work-then-not-prepare
 shape_of-work-then-not-prepare c = zeros_long _ c.zero.ensures ∙ c.prepare.ensures.long
 
 pub returns-then-not-prepare : goal.returns-then-not-prepare
-returns-then-not-prepare c = solved_none c.prepare.ensures (c.if-not-prepare.true) c.zero.ensures
+returns-then-not-prepare c = solved_none c.prepare.ensures c.if-not-prepare.true c.zero.ensures
 
 pub overflow_sub-m : goal.overflow_sub-m
 overflow_sub-m c = omega (arith, c.requires.0.checks)
@@ -21,7 +21,7 @@ pub fill-requires : goal.fill-requires
 fill-requires c =
     let asked = c.requires in
     let made = c.prepare in
-    (asked.2, made.ensures.long ∙ asked.1, made.ensures.reduced (c.if-not-prepare.false), asked.3)
+    (asked.2, made.ensures.long ∙ asked.1, made.ensures.reduced c.if-not-prepare.false, asked.3)
 
 pub shape_of-codeword : goal.shape_of-codeword
 shape_of-codeword c = (c.fill.ensures _ c.prepare.ensures.means).long

@@ -1,5 +1,4 @@
 use mathlib.Core.Path.{◌≡◌, sym, ◌∙◌}
-use Prim.Native.Nat.{◌-◌}
 use native.Mathlib.Omega.{arith}
 use borrow.Author.Rules.{rules}
 use Rattle.rules.specs.Graphs.{unsatisfied, odd_check}
@@ -20,13 +19,13 @@ is_odd-requires c = let ok = c.requires.0 in record { a_le_b = omega (arith, adm
 pub returns-then-is_odd : goal.returns-then-is_odd
 unfolding unsatisfied
 returns-then-is_odd c =
-    let test : c.is_odd.result ≡ odd_check ((graph_of c.args.n c.args.starts.now c.args.columns.now)) ((bit_of_byte c.args.bits.now)) c.loop-i.i = odd_test ((graph_of c.args.n c.args.starts.now c.args.columns.now)) ((bit_of_byte c.args.bits.now)) c.loop-i.i _ _ c.start.ensures.0 c.start-in-loop-i.ensures.0 c.is_odd.ensures in
-    sym (some_odd _ c.loop-i.i _ (omega arith) (sym (test) ∙ c.if-is_odd.true))
+    let test : c.is_odd.result ≡ odd_check (graph_of c.args.n c.args.starts.now c.args.columns.now) (bit_of_byte c.args.bits.now) c.loop-i.i = odd_test (graph_of c.args.n c.args.starts.now c.args.columns.now) (bit_of_byte c.args.bits.now) c.loop-i.i _ _ c.start.ensures.0 c.start-in-loop-i.ensures.0 c.is_odd.ensures in
+    sym (some_odd _ c.loop-i.i _ (omega arith) (sym test ∙ c.if-is_odd.true))
 
 pub loop-i-preserved : goal.loop-i-preserved
 loop-i-preserved c =
-    let test : c.is_odd.result ≡ odd_check ((graph_of c.args.n c.args.starts.now c.args.columns.now)) ((bit_of_byte c.args.bits.now)) c.loop-i.i = odd_test ((graph_of c.args.n c.args.starts.now c.args.columns.now)) ((bit_of_byte c.args.bits.now)) c.loop-i.i _ _ c.start.ensures.0 c.start-in-loop-i.ensures.0 c.is_odd.ensures in
-    (search rules, counted_same c.loop-i.invariant.1 (test) c.if-is_odd.false)
+    let test : c.is_odd.result ≡ odd_check (graph_of c.args.n c.args.starts.now c.args.columns.now) (bit_of_byte c.args.bits.now) c.loop-i.i = odd_test (graph_of c.args.n c.args.starts.now c.args.columns.now) (bit_of_byte c.args.bits.now) c.loop-i.i _ _ c.start.ensures.0 c.start-in-loop-i.ensures.0 c.is_odd.ensures in
+    (search rules, counted_same c.loop-i.invariant.1 test c.if-is_odd.false)
 
 pub returns : goal.returns
 unfolding unsatisfied

@@ -1,4 +1,4 @@
-use Prim.Native.Nat.{◌+◌, ◌-◌}
+use Prim.Native.Nat.{◌+◌}
 use native.Mathlib.Omega.{arith}
 use borrow.Author.Rules.{rules}
 use mir.Val.{bool_byte}
@@ -27,12 +27,12 @@ is_odd-requires c =
 
 pub overflow_add-odd : goal.overflow_add-odd
 overflow_add-odd c =
-    let more : Counted (odd_check ((graph_of c.args.n c.args.starts.now c.args.columns.now)) ((bit_of_byte c.args.bits.now))) (c.loop-i.odd + bool_byte c.is_odd.result) (c.loop-i.i + 1) = counted_more c.loop-i.invariant.1 (odd_test ((graph_of c.args.n c.args.starts.now c.args.columns.now)) ((bit_of_byte c.args.bits.now)) c.loop-i.i _ _ c.start.ensures.0 c.start-in-loop-i.ensures.0 c.is_odd.ensures) in
-    omega (arith, counted_le (more))
+    let more : Counted (odd_check (graph_of c.args.n c.args.starts.now c.args.columns.now) (bit_of_byte c.args.bits.now)) (c.loop-i.odd + bool_byte c.is_odd.result) (c.loop-i.i + 1) = counted_more c.loop-i.invariant.1 (odd_test (graph_of c.args.n c.args.starts.now c.args.columns.now) (bit_of_byte c.args.bits.now) c.loop-i.i _ _ c.start.ensures.0 c.start-in-loop-i.ensures.0 c.is_odd.ensures) in
+    omega (arith, counted_le more)
 
 pub loop-i-preserved : goal.loop-i-preserved
 loop-i-preserved c =
-    let more : Counted (odd_check ((graph_of c.args.n c.args.starts.now c.args.columns.now)) ((bit_of_byte c.args.bits.now))) (c.loop-i.odd + bool_byte c.is_odd.result) (c.loop-i.i + 1) = counted_more c.loop-i.invariant.1 (odd_test ((graph_of c.args.n c.args.starts.now c.args.columns.now)) ((bit_of_byte c.args.bits.now)) c.loop-i.i _ _ c.start.ensures.0 c.start-in-loop-i.ensures.0 c.is_odd.ensures) in
+    let more : Counted (odd_check (graph_of c.args.n c.args.starts.now c.args.columns.now) (bit_of_byte c.args.bits.now)) (c.loop-i.odd + bool_byte c.is_odd.result) (c.loop-i.i + 1) = counted_more c.loop-i.invariant.1 (odd_test (graph_of c.args.n c.args.starts.now c.args.columns.now) (bit_of_byte c.args.bits.now) c.loop-i.i _ _ c.start.ensures.0 c.start-in-loop-i.ensures.0 c.is_odd.ensures) in
     (search rules, more)
 
 pub returns : goal.returns

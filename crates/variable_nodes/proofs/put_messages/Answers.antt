@@ -1,4 +1,3 @@
-use Prim.Native.Nat.{◌-◌}
 use native.Mathlib.Omega.{arith}
 use Rattle.rules.proofs.Filling.{filled_none, filled_more, filled_all}
 use Rattle.variable_nodes.proofs.put_messages.Goals as goal

@@ -29,25 +29,25 @@ bounds-parts-incoming c = omega (arith, c.requires.incoming_len.2.long, c.shared
 pub overflow_sub-sum : goal.overflow_sub-sum
 overflow_sub-sum c =
     let low : c.column-v.result < length c.args.sums.now / 4 = rw c.column-v.ensures.0 c.requires.e_in_bounds in
-    let few : nat_abs c.sum.result + nat_abs ((let a = c.args in part_in a.parts.now a.incoming.now a.e)) < 2 ^ 31 = omega (arith, ap nat_abs c.sum.ensures, c.requires.by_index c.column-v.result (low), c.requires.incoming_len.2.small (get_or c.args.incoming.now c.args.e 0)) in
-    less_fits c.sum.result ((let a = c.args in part_in a.parts.now a.incoming.now a.e)) (few)
+    let few : nat_abs c.sum.result + nat_abs (let a = c.args in part_in a.parts.now a.incoming.now a.e) < 2 ^ 31 = omega (arith, ap nat_abs c.sum.ensures, c.requires.by_index c.column-v.result low, c.requires.incoming_len.2.small (get_or c.args.incoming.now c.args.e 0)) in
+    less_fits c.sum.result (let a = c.args in part_in a.parts.now a.incoming.now a.e) few
 
 pub place-requires : goal.place-requires
 place-requires c =
     let low : c.column-v.result < length c.args.sums.now / 4 = rw c.column-v.ensures.0 c.requires.e_in_bounds in
-    let few : nat_abs c.sum.result + nat_abs ((let a = c.args in part_in a.parts.now a.incoming.now a.e)) < 2 ^ 31 = omega (arith, ap nat_abs c.sum.ensures, c.requires.by_index c.column-v.result (low), c.requires.incoming_len.2.small (get_or c.args.incoming.now c.args.e 0)) in
-    rw (less_is c.sum.result ((let a = c.args in part_in a.parts.now a.incoming.now a.e)) (few)) (omega (arith, less_abs c.sum.result ((let a = c.args in part_in a.parts.now a.incoming.now a.e)) (few), few))
+    let few : nat_abs c.sum.result + nat_abs (let a = c.args in part_in a.parts.now a.incoming.now a.e) < 2 ^ 31 = omega (arith, ap nat_abs c.sum.ensures, c.requires.by_index c.column-v.result low, c.requires.incoming_len.2.small (get_or c.args.incoming.now c.args.e 0)) in
+    rw (less_is c.sum.result (let a = c.args in part_in a.parts.now a.incoming.now a.e) few) (omega (arith, less_abs c.sum.result (let a = c.args in part_in a.parts.now a.incoming.now a.e) few, few))
 
 pub bounds-messages-place : goal.bounds-messages-place
 bounds-messages-place c =
     let low : c.column-v.result < length c.args.sums.now / 4 = rw c.column-v.ensures.0 c.requires.e_in_bounds in
-    let few : nat_abs c.sum.result + nat_abs ((let a = c.args in part_in a.parts.now a.incoming.now a.e)) < 2 ^ 31 = omega (arith, ap nat_abs c.sum.ensures, c.requires.by_index c.column-v.result (low), c.requires.incoming_len.2.small (get_or c.args.incoming.now c.args.e 0)) in
-    let place_is : c.place.result ≡ place_of ((let a = c.args in sum_at a.sums.now (column_at a.columns.now a.e) -ℤ (let a = c.args in part_in a.parts.now a.incoming.now a.e))) = c.place.ensures ∙ ap place_of (less_is c.sum.result ((let a = c.args in part_in a.parts.now a.incoming.now a.e)) (few) ∙ ap (λ s. s -ℤ (let a = c.args in part_in a.parts.now a.incoming.now a.e)) (c.sum.ensures ∙ ap (sum_at c.args.sums.now) c.column-v.ensures.0)) in
-    omega (arith, place_is, place_low ((let a = c.args in sum_at a.sums.now (column_at a.columns.now a.e) -ℤ (let a = c.args in part_in a.parts.now a.incoming.now a.e))), c.requires.incoming_len)
+    let few : nat_abs c.sum.result + nat_abs (let a = c.args in part_in a.parts.now a.incoming.now a.e) < 2 ^ 31 = omega (arith, ap nat_abs c.sum.ensures, c.requires.by_index c.column-v.result low, c.requires.incoming_len.2.small (get_or c.args.incoming.now c.args.e 0)) in
+    let place_is : c.place.result ≡ place_of (let a = c.args in sum_at a.sums.now (column_at a.columns.now a.e) -ℤ (let a = c.args in part_in a.parts.now a.incoming.now a.e)) = c.place.ensures ∙ ap place_of (less_is c.sum.result (let a = c.args in part_in a.parts.now a.incoming.now a.e) few ∙ ap (λ s. s -ℤ (let a = c.args in part_in a.parts.now a.incoming.now a.e)) (c.sum.ensures ∙ ap (sum_at c.args.sums.now) c.column-v.ensures.0)) in
+    omega (arith, place_is, place_low (let a = c.args in sum_at a.sums.now (column_at a.columns.now a.e) -ℤ (let a = c.args in part_in a.parts.now a.incoming.now a.e)), c.requires.incoming_len)
 
 pub returns : goal.returns
 returns c =
     let low : c.column-v.result < length c.args.sums.now / 4 = rw c.column-v.ensures.0 c.requires.e_in_bounds in
-    let few : nat_abs c.sum.result + nat_abs ((let a = c.args in part_in a.parts.now a.incoming.now a.e)) < 2 ^ 31 = omega (arith, ap nat_abs c.sum.ensures, c.requires.by_index c.column-v.result (low), c.requires.incoming_len.2.small (get_or c.args.incoming.now c.args.e 0)) in
-    let place_is : c.place.result ≡ place_of ((let a = c.args in sum_at a.sums.now (column_at a.columns.now a.e) -ℤ (let a = c.args in part_in a.parts.now a.incoming.now a.e))) = c.place.ensures ∙ ap place_of (less_is c.sum.result ((let a = c.args in part_in a.parts.now a.incoming.now a.e)) (few) ∙ ap (λ s. s -ℤ (let a = c.args in part_in a.parts.now a.incoming.now a.e)) (c.sum.ensures ∙ ap (sum_at c.args.sums.now) c.column-v.ensures.0)) in
-    ap (λ k. get_or c.args.messages.now k 0) (place_is)
+    let few : nat_abs c.sum.result + nat_abs (let a = c.args in part_in a.parts.now a.incoming.now a.e) < 2 ^ 31 = omega (arith, ap nat_abs c.sum.ensures, c.requires.by_index c.column-v.result low, c.requires.incoming_len.2.small (get_or c.args.incoming.now c.args.e 0)) in
+    let place_is : c.place.result ≡ place_of (let a = c.args in sum_at a.sums.now (column_at a.columns.now a.e) -ℤ (let a = c.args in part_in a.parts.now a.incoming.now a.e)) = c.place.ensures ∙ ap place_of (less_is c.sum.result (let a = c.args in part_in a.parts.now a.incoming.now a.e) few ∙ ap (λ s. s -ℤ (let a = c.args in part_in a.parts.now a.incoming.now a.e)) (c.sum.ensures ∙ ap (sum_at c.args.sums.now) c.column-v.ensures.0)) in
+    ap (λ k. get_or c.args.messages.now k 0) place_is
