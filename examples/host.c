@@ -90,8 +90,7 @@ static void write_sheet(void)
     printf("sheet written\n%lu bytes, %s\n", (unsigned long)length, same ? "the same" : "another");
 }
 
-/* From iteration lift_from on a check message of magnitude 3, the largest that 3 bits have, counts as magnitude lift_to. Of a refused frame it
-   prints that the answer is neither a codeword nor open. */
+/* From iteration lift_from on a check message of magnitude 3, the largest that 3 bits have, counts as magnitude lift_to. */
 static void decode_lifted(const uint8_t *values, uint32_t limit, uint32_t lift_from, uint32_t lift_to)
 {
     uint8_t levels[VARIABLES], variable_messages[ENTRIES], check_messages[ENTRIES], sums[4 * VARIABLES], bits[VARIABLES];
@@ -103,7 +102,6 @@ static void decode_lifted(const uint8_t *values, uint32_t limit, uint32_t lift_f
     if (frame_refusal(answer) != 0) {
         refused(answer, frame_decode_place(variables, starts, starts_length, columns, columns_length, values, 4 * VARIABLES,
                                            frame_refusal(answer), degrees, sizeof degrees));
-        printf("codeword %d, open %d\n", frame_is_codeword(answer), frame_is_open(answer));
         return;
     }
     printf("verdict iterations unsatisfied\n%s %u %u\nbits\n", frame_is_codeword(answer) ? "codeword" : "stopped",

@@ -252,9 +252,9 @@ static inline unsigned frame_refusal(uint64_t answer) { return (unsigned)(answer
 /* Of decode, begin and advance, where nothing is refused: whether the bits are a codeword, the number of the iteration where the run stopped or
    halted, and how many checks are unsatisfied there. Of begin and advance also: whether the run is still open, neither a codeword nor at its limit.
    The answer's lowest byte is then 0, the next is 0 for a codeword, 1 for stopped, 2 for open, the next two are the iteration, the upper four the
-   unsatisfied checks. A refused answer is neither open nor a codeword: both are 0 of it. */
-static inline int frame_is_open(uint64_t answer) { return frame_refusal(answer) == 0 && (answer >> 8 & 255) == 2; }
-static inline int frame_is_codeword(uint64_t answer) { return frame_refusal(answer) == 0 && (answer >> 8 & 255) == 0; }
+   unsatisfied checks. */
+static inline int frame_is_open(uint64_t answer) { return (answer >> 8 & 255) == 2; }
+static inline int frame_is_codeword(uint64_t answer) { return (answer >> 8 & 255) == 0; }
 static inline unsigned frame_iterations(uint64_t answer) { return (unsigned)(answer >> 16 & 65535); }
 static inline unsigned frame_unsatisfied(uint64_t answer) { return (unsigned)(answer >> 32); }
 
