@@ -7,17 +7,17 @@ test:
 	bash .ci/run
 
 check:
-	rt check
+	rt all check
 
 run:
 	cd crates/frame && rt run < /dev/null > /dev/null
 	bin/frame-in examples/frame < examples/frame/run.txt
 
 lib:
-	rt staticlib host
+	cd crates/host_c && rt lib
 	mkdir -p target/lib
 	cp include/frame.h target/lib/frame.h
-	cp target/staticlib/libhost.a target/lib/libframe.a
+	cp crates/host_c/out/libhost_c.a target/lib/libframe.a
 	$(CC) -shared -Wl,-soname,libframe.so -Wl,-z,text -Wl,-z,defs \
 	  -Wl,--whole-archive target/lib/libframe.a -Wl,--no-whole-archive -o target/lib/libframe.so
 

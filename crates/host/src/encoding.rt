@@ -3,8 +3,7 @@ ghost use Rattle.words.specs.Roles.{graph_of};
 ghost use Rattle.interface.specs.Encoding.{HostEncodes, TellsEncodePlace};
 
 // Gives the codeword that holds given bits.
-#[unsafe(no_mangle)]
-pub extern "C" fn frame_encode(
+pub fn frame_encode(
     n: usize,
     starts: &[u8],
     columns: &[u8],
@@ -23,8 +22,7 @@ pub extern "C" fn frame_encode(
 }
 
 // The place of what `frame_encode` refuses, 0 where it refuses nothing.
-#[unsafe(no_mangle)]
-pub extern "C" fn frame_encode_place(
+pub fn frame_encode_place(
     n: usize,
     starts: &[u8],
     columns: &[u8],

@@ -15,8 +15,7 @@ pub mod runs; // the entries for a run that pauses
 pub mod pairs; // the entries for two heads
 
 // Decodes a frame. The answer's lowest byte is the refusal's number, 0 where nothing is refused.
-#[unsafe(no_mangle)]
-pub extern "C" fn frame_decode(
+pub fn frame_decode(
     n: usize,
     starts: &[u8],
     columns: &[u8],
@@ -72,8 +71,7 @@ pub extern "C" fn frame_decode(
 // The place of what `frame_decode` refuses of this graph, with this list of degrees, and these values, where its number is `refusal`; 0 where
 // that is 0. Asked with settings that are in order and memory enough for every graph, decode refuses, beside
 // the graph's, 13 and 12, only a blank frame, whose place is 0.
-#[unsafe(no_mangle)]
-pub extern "C" fn frame_decode_place(
+pub fn frame_decode_place(
     n: usize,
     starts: &[u8],
     columns: &[u8],

@@ -14,8 +14,7 @@ const REPORTS: usize = 16;
 
 // Decodes the frames of two heads. The answer's lowest byte is the refusal's number, 0 where nothing is refused, and the next says whose it is: 1 and 2 for
 // the heads, 0 for neither's.
-#[unsafe(no_mangle)]
-pub extern "C" fn frame_decode_pair(
+pub fn frame_decode_pair(
     n: usize,
     starts: &[u8],
     columns: &[u8],
@@ -138,8 +137,7 @@ pub extern "C" fn frame_decode_pair(
 
 // The place of what `frame_decode_pair` refuses of this graph, with this list of degrees, and of the values of both heads, where it answered `answer`: that of
 // the head that is refused.
-#[unsafe(no_mangle)]
-pub extern "C" fn frame_decode_pair_place(
+pub fn frame_decode_pair_place(
     n: usize,
     starts: &[u8],
     columns: &[u8],

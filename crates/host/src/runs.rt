@@ -12,8 +12,7 @@ use pausing::Unscaled;
 use settings::Parameters;
 
 // Begins a run. The answer's lowest byte is the refusal's number, 0 where nothing is refused; then the answer is the record.
-#[unsafe(no_mangle)]
-pub extern "C" fn frame_begin(
+pub fn frame_begin(
     n: usize,
     starts: &[u8],
     columns: &[u8],
@@ -67,8 +66,7 @@ pub extern "C" fn frame_begin(
 }
 
 // The place of what `frame_begin` refuses: decode's.
-#[unsafe(no_mangle)]
-pub extern "C" fn frame_begin_place(
+pub fn frame_begin_place(
     n: usize,
     starts: &[u8],
     columns: &[u8],
@@ -82,8 +80,7 @@ pub extern "C" fn frame_begin_place(
 }
 
 // Advances a run. The answer's lowest byte is the refusal's number, 0 where nothing is refused; then the answer is the record.
-#[unsafe(no_mangle)]
-pub extern "C" fn frame_advance(
+pub fn frame_advance(
     record: u64,
     n: usize,
     starts: &[u8],
@@ -134,13 +131,7 @@ pub extern "C" fn frame_advance(
 }
 
 // The place of what `frame_advance` refuses: only the graph's refusals have one.
-#[unsafe(no_mangle)]
-pub extern "C" fn frame_advance_place(
-    n: usize,
-    starts: &[u8],
-    columns: &[u8],
-    degrees: &mut [u8],
-) -> usize
+pub fn frame_advance_place(n: usize, starts: &[u8], columns: &[u8], degrees: &mut [u8]) -> usize
     ensures { TellsPlace (graph_of n starts.now columns.now) (place_of (graph_judged_in limits (graph_of n starts.now columns.now) (length degrees.old))) degrees.old degrees.new result }
 {
     let j = graph::check(n, starts, columns, degrees);

@@ -7,8 +7,7 @@ ghost use Rattle.interface.specs.Packing.{place_of, HostReads, HostWrites, Tells
 ghost use Rattle.interface.specs.Blocks.{HostReadsBlocks, TellsBlocksLine, HostWritesBlocks, TellsBlocksPlace};
 
 // Reads a sheet into the lists of its graph.
-#[unsafe(no_mangle)]
-pub extern "C" fn frame_read_sheet(
+pub fn frame_read_sheet(
     text: &[u8],
     degrees: &mut [u8],
     starts: &mut [u8],
@@ -21,8 +20,7 @@ pub extern "C" fn frame_read_sheet(
 }
 
 // The place of what `frame_read_sheet` refuses for lists of these lengths, 0 where it refuses nothing.
-#[unsafe(no_mangle)]
-pub extern "C" fn frame_read_sheet_place(
+pub fn frame_read_sheet_place(
     text: &[u8],
     degrees: &mut [u8],
     starts: usize,
@@ -35,8 +33,7 @@ pub extern "C" fn frame_read_sheet_place(
 }
 
 // Writes the sheet of a graph.
-#[unsafe(no_mangle)]
-pub extern "C" fn frame_write_sheet(
+pub fn frame_write_sheet(
     n: usize,
     starts: &[u8],
     columns: &[u8],
@@ -50,8 +47,7 @@ pub extern "C" fn frame_write_sheet(
 }
 
 // The place of what `frame_write_sheet` refuses for a text of this length, 0 where it refuses nothing.
-#[unsafe(no_mangle)]
-pub extern "C" fn frame_write_sheet_place(
+pub fn frame_write_sheet_place(
     n: usize,
     starts: &[u8],
     columns: &[u8],
@@ -67,8 +63,7 @@ pub extern "C" fn frame_write_sheet_place(
 // ---- block sheets
 
 // Reads a block sheet into the lists of its expansion.
-#[unsafe(no_mangle)]
-pub extern "C" fn frame_read_blocks(
+pub fn frame_read_blocks(
     text: &[u8],
     degrees: &mut [u8],
     starts: &mut [u8],
@@ -81,8 +76,7 @@ pub extern "C" fn frame_read_blocks(
 }
 
 // The place of what `frame_read_blocks` refuses for lists of these lengths, 0 where it refuses nothing.
-#[unsafe(no_mangle)]
-pub extern "C" fn frame_read_blocks_place(
+pub fn frame_read_blocks_place(
     text: &[u8],
     degrees: &mut [u8],
     starts: usize,
@@ -95,8 +89,7 @@ pub extern "C" fn frame_read_blocks_place(
 }
 
 // Writes the block sheet of a size, counts and entries.
-#[unsafe(no_mangle)]
-pub extern "C" fn frame_write_blocks(
+pub fn frame_write_blocks(
     size: usize,
     rows: usize,
     columns: usize,
@@ -111,8 +104,7 @@ pub extern "C" fn frame_write_blocks(
 }
 
 // The place of what `frame_write_blocks` refuses for a text of this length, 0 where it refuses nothing.
-#[unsafe(no_mangle)]
-pub extern "C" fn frame_write_blocks_place(
+pub fn frame_write_blocks_place(
     size: usize,
     rows: usize,
     columns: usize,
