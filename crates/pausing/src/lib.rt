@@ -20,9 +20,9 @@ pub mod exact; // the parts of begin and advance
 // How a run stands.
 #[derive(Clone, Copy)]
 pub enum Standing {
-    Open,
     Codeword,
     Stopped,
+    Open,
 }
 
 // The record of a run: how it stands, the number of its iteration, and how many checks are unsatisfied there.
