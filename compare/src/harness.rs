@@ -20,9 +20,8 @@ pub use encode::is_decoded;
 #[cfg(test)]
 pub use heads::{Promise, is_broken};
 pub use programs::{refusal_number, run_programs};
-use series::Seen;
 pub use series::{Budget, Failure, Series};
-use threads::{Said, ask_all};
+use threads::ask_all;
 
 use crate::generate::blank_cases::{self, BLANK_STRIPS};
 use crate::generate::block_strips::{self, BLOCK_STRIPS};
@@ -102,31 +101,21 @@ pub fn run_on(
     budget: Budget,
     wanted: impl Fn(&Case) -> bool + Sync,
 ) -> Series {
-    let Said { before, failure } = ask_on(decoder, seed, budget, wanted);
-    let mut series = Series { inputs: before.len() as u64, ..Series::default() };
-    before.iter().flatten().for_each(|seen| series.note(seen));
-    series.failure = failure.map(|(input, case)| {
-        series.inputs += 1;
-        shrunk(case, decoder, input)
-    });
-    series
-}
-
-/// The same by input, and the first one that fails as it is.
-pub fn ask_on(
-    decoder: &dyn Decoder,
-    seed: u64,
-    budget: Budget,
-    wanted: impl Fn(&Case) -> bool + Sync,
-) -> Said<Option<Seen>, Case> {
     let inputs = Inputs::of(seed);
-    ask_all(budget, |input| {
+    let said = ask_all(budget, |input| {
         let case = inputs.input(input);
         match wanted(&case) {
-            true => check(&case, decoder, input).map(Some).map_err(|_| case),
+            true => check(&case, decoder, input).map(Some).map_err(|_| Box::new(case)),
             false => Ok(None),
         }
-    })
+    });
+    let mut series = Series { inputs: said.before.len() as u64, ..Series::default() };
+    said.before.into_iter().flatten().for_each(|seen| series.note(seen));
+    series.failure = said.failure.map(|(input, case)| {
+        series.inputs += 1;
+        shrunk(*case, decoder, input)
+    });
+    series
 }
 
 /// One input of a seed again.
@@ -142,35 +131,10 @@ fn shrunk(case: Case, decoder: &dyn Decoder, input: u64) -> Failure {
     Failure { input, case, message }
 }
 
-/// What the paper says of each of 30,000 inputs, on which the fast decoder agrees. The strips among
-/// them take long, so all tests look at the same series.
-#[cfg(test)]
-pub fn agreed_with_fast() -> &'static [Seen] {
-    static AGREED: OnceLock<Vec<Seen>> = OnceLock::new();
-    AGREED.get_or_init(|| {
-        let said = ask_on(&crate::fast::Fast, 7, Budget::Inputs(30_000), |_| true);
-        assert!(said.failure.is_none(), "input {:?}", said.failure.map(|(input, _)| input));
-        said.before.into_iter().flatten().collect()
-    })
-}
-
 #[cfg(test)]
 mod tests {
     use super::*;
     use crate::fast::Fast;
-    use crate::interface::{Record, reports_in};
-
-    /// Of the strips from one on.
-    fn strips_from(strip: usize) -> &'static [Seen] {
-        &agreed_with_fast()[INPUTS_BEFORE_STRIPS as usize + strip..]
-    }
-
-    /// The call and the refusal's number of strips, by their numbers from one on.
-    fn are_for(strip: usize, expected: &[(&str, u8)]) {
-        for (number, (seen, expected)) in strips_from(strip).iter().zip(expected).enumerate() {
-            assert_eq!((seen.call, seen.refusal), *expected, "strip {strip} + {number}");
-        }
-    }
 
     #[test]
     fn the_strips_come_after_the_other_limits() {
@@ -179,6 +143,7 @@ mod tests {
         println!("{at_limits} inputs at the smaller limits");
     }
 
+    /// The call and the refusal's number of each strip, by its number.
     #[test]
     fn strips_are_what_they_are_for() {
         // At the limits, then n, m and E one past them, then the fullest.
@@ -194,12 +159,15 @@ mod tests {
         expected.extend([("write", 6), ("read", 6), ("decode", 4)]);
         expected.extend([("decode", 0), ("twin", 0)]);
         assert_eq!(expected.len(), STRIPS);
-        are_for(0, &expected);
-        // The codeword is found, and not at once.
-        let iterations = strips_from(STRIPS - 2)[0].iterations;
-        assert!(iterations.is_some_and(|count| (2..30).contains(&count)));
+        for (number, expected) in expected.into_iter().enumerate() {
+            let seen = check(&strip(3, number), &Fast, number as u64).unwrap();
+            assert_eq!((seen.call, seen.refusal), expected, "strip {number}");
+            if number == STRIPS - 2 {
+                // The codeword is found, and not at once.
+                assert!(seen.iterations.is_some_and(|count| (2..30).contains(&count)));
+            }
+        }
     }
-
     /// The same of block sheets.
     #[test]
     fn block_strips_are_what_they_are_for() {
@@ -215,48 +183,68 @@ mod tests {
             ("read blocks", 2),
         ];
         assert_eq!(expected.len(), BLOCK_STRIPS);
-        are_for(STRIPS, &expected);
+        for (number, expected) in expected.into_iter().enumerate() {
+            let seen = check(&block_strips::strip(3, number), &Fast, number as u64).unwrap();
+            assert_eq!((seen.call, seen.refusal), expected, "block strip {number}");
+        }
     }
-
     /// And of the writing side: as many columns as there can be, and one more.
     #[test]
     fn encode_strips_are_what_they_are_for() {
-        let expected = [("encode", 4), ("encode", 2)];
-        assert_eq!(expected.len(), ENCODE_STRIPS);
-        are_for(STRIPS + BLOCK_STRIPS, &expected);
+        let first = INPUTS_BEFORE_STRIPS + (STRIPS + BLOCK_STRIPS) as u64;
+        let inputs = Inputs::of(3);
+        for (number, expected) in (first..).zip([4, 2]) {
+            let seen = check(&inputs.input(number), &Fast, number).unwrap();
+            assert_eq!((seen.call, seen.refusal), ("encode", expected), "input {number}");
+        }
     }
 
     /// And of blank frames: nothing exposed, the last value, a NaN there, a short buffer.
     #[test]
     fn blank_strips_are_what_they_are_for() {
-        let expected = [20, 0, 12, 20].map(|number| ("decode", number));
+        let first = INPUTS_BEFORE_STRIPS + (STRIPS + BLOCK_STRIPS + ENCODE_STRIPS) as u64;
+        let inputs = Inputs::of(3);
+        let expected = [20, 0, 12, 20];
         assert_eq!(expected.len(), BLANK_STRIPS);
-        are_for(STRIPS + BLOCK_STRIPS + ENCODE_STRIPS, &expected);
+        for (number, expected) in (first..).zip(expected) {
+            let seen = check(&inputs.input(number), &Fast, number).unwrap();
+            assert_eq!((seen.call, seen.refusal), ("decode", expected), "input {number}");
+        }
     }
 
     /// And of paused runs: one by parts, a state that is carried on, and levels and messages beyond
     /// their precision at the far end.
     #[test]
     fn pause_strips_are_what_they_are_for() {
+        let blank = STRIPS + BLOCK_STRIPS + ENCODE_STRIPS;
+        let first = INPUTS_BEFORE_STRIPS + (blank + BLANK_STRIPS) as u64;
+        let inputs = Inputs::of(3);
         let expected = [("begin", 0), ("advance", 0), ("advance", 21), ("advance", 21)];
         assert_eq!(expected.len(), PAUSE_STRIPS);
-        are_for(STRIPS + BLOCK_STRIPS + ENCODE_STRIPS + BLANK_STRIPS, &expected);
+        for (number, expected) in (first..).zip(expected) {
+            let seen = check(&inputs.input(number), &Fast, number).unwrap();
+            assert_eq!((seen.call, seen.refusal), expected, "input {number}");
+        }
     }
 
     /// And of pairs: one that is accepted, of which one head comes to a codeword and the other goes
     /// on past its half; an infinity and a short list at the far end of the second head.
     #[test]
     fn pair_strips_are_what_they_are_for() {
-        let first = STRIPS + BLOCK_STRIPS + ENCODE_STRIPS + BLANK_STRIPS + PAUSE_STRIPS;
+        let blank = STRIPS + BLOCK_STRIPS + ENCODE_STRIPS + BLANK_STRIPS;
+        let first = INPUTS_BEFORE_STRIPS + (blank + PAUSE_STRIPS) as u64;
+        let inputs = Inputs::of(3);
         let expected = [("pair", 0), ("pair, second head", 12), ("pair, second head", 6)];
         assert_eq!(expected.len(), PAIR_STRIPS);
-        are_for(first, &expected);
-        let Case::Pair(case) = Inputs::of(7).input(INPUTS_BEFORE_STRIPS + first as u64) else {
-            panic!("a pair");
-        };
-        let mut arena = pair::arena_of(&case, &mut Random::new(1));
-        pair::answer_in(&mut arena, &case, &Fast);
-        let reports = reports_in(arena.part("reports")).map(|report| Record::of_number(report));
-        assert_eq!(reports.map(|report| report.unwrap().iterations), [1, 3]);
+        for (number, expected) in (first..).zip(expected) {
+            let case = inputs.input(number);
+            let seen = check(&case, &Fast, number).unwrap();
+            assert_eq!((seen.call, seen.refusal), expected, "input {number}");
+            if let (Case::Pair(case), 0) = (case, seen.refusal) {
+                let outcomes = case.outcome(&mut vec![0; case.first.n]).unwrap();
+                let iterations = outcomes.map(|outcome| outcome.iterations);
+                assert_eq!(iterations, [1, 3]);
+            }
+        }
     }
 }

@@ -1,7 +1,5 @@
 //! The faults, by what they have to do with.
 
-use crate::generate::cases::Case;
-
 #[derive(Clone, Copy, Debug, PartialEq, Eq)]
 pub enum Fault {
     None,
@@ -271,23 +269,8 @@ pub enum Fault {
 }
 
 impl Fault {
-    /// The cases that can show a fault: of block sheets, of the writing side, of paused runs and of
-    /// pairs those of its calls alone, of the others all but pairs. Each kind begins with the fault
-    /// that is named.
-    pub fn concerns(self, case: &Case) -> bool {
-        let is_from = |first: Fault| self as usize >= first as usize;
-        if is_from(Fault::HalvesRoundedDown) {
-            matches!(case, Case::Pair(_))
-        } else if is_from(Fault::LastStepLeftOut) {
-            matches!(case, Case::Run(_) | Case::Advance(_) | Case::Twin(_))
-        } else if is_from(Fault::BlankByFirst) {
-            !matches!(case, Case::Pair(_))
-        } else if is_from(Fault::FreeBitsAsOne) {
-            matches!(case, Case::Encode(_))
-        } else if is_from(Fault::BlocksShiftedBack) {
-            matches!(case, Case::ReadBlocks(_) | Case::WriteBlocks(_))
-        } else {
-            !matches!(case, Case::Pair(_))
-        }
+    /// Those of pairs stand last.
+    pub fn is_of_pairs(self) -> bool {
+        self as usize >= Fault::HalvesRoundedDown as usize
     }
 }

@@ -1,17 +1,19 @@
 //! The faults that the harness finds, and how small it makes the input that shows them.
 
 use super::{Fault, Faulty};
+use crate::fast::Fast;
 use crate::generate::cases::{self, Case};
 use crate::harness::check::check;
-use crate::harness::{self, Budget, Failure, Series};
+use crate::harness::{self, Budget, Failure};
 use crate::interface::{ENTRY_BYTES, NUMBER_BYTES};
 use crate::random::Random;
 
 pub const SEED: u64 = 7;
 
-/// What the harness finds in the cases that a fault concerns.
+/// What the harness finds. The faults of pairs are in their call alone, and the others are not in
+/// it.
 pub fn found(fault: Fault) -> Failure {
-    let wanted = |case: &Case| fault.concerns(case);
+    let wanted = |case: &Case| matches!(case, Case::Pair(_)) == fault.is_of_pairs();
     let series = harness::run_on(&Faulty(fault), SEED, Budget::Inputs(20_000), wanted);
     let failure = series.failure.unwrap_or_else(|| panic!("{fault:?} is not found"));
     println!("{fault:?}: {failure}");
@@ -41,10 +43,9 @@ fn nothing_without_a_fault() {
 
 #[test]
 fn nothing_in_the_fast_decoder() {
-    let agreed = harness::agreed_with_fast();
-    assert_eq!(agreed.len(), 30_000);
-    let mut series = Series::default();
-    agreed.iter().for_each(|seen| series.note(seen));
+    let series = harness::run(&Fast, SEED, Budget::Inputs(30_000));
+    assert_eq!(series.inputs, 30_000);
+    assert!(series.failure.is_none());
     // Every refusal of each call is among the inputs.
     for number in [2, 3, 4, 5, 6, 7, 8, 9, 10, 11, 12, 13, 16, 20] {
         assert!(series.tally.contains_key(&("decode", number)), "decode {number}");
@@ -240,17 +241,14 @@ fn faults_of_numbers_cut_to_16_bits() {
     assert!(columns.contains("not Refused(3)"));
 }
 
-/// Found before the strips, in a sheet of 32,769 entries. It is not shrunk, since no sheet of fewer
-/// lines fails, and shrinking would go on until its time is over.
+/// Found before the strips, in a sheet of 32,769 entries.
 #[test]
 fn the_old_limit_in_the_reader() {
-    let decoder = Faulty(Fault::OldLimitInReader);
-    let said = harness::ask_on(&decoder, SEED, Budget::Inputs(5_000), |_| true);
-    let (input, found) = said.failure.expect("the fault is found");
-    let message = check(&found, &decoder, input).err().unwrap_or_default();
-    assert!(message.starts_with("the answer is Refused(2), not "));
-    let Case::Read(case) = &found else {
-        panic!("found in {found:?}");
+    let series = harness::run(&Faulty(Fault::OldLimitInReader), SEED, Budget::Inputs(5_000));
+    let failure = series.failure.expect("the fault is found");
+    assert!(failure.message.starts_with("the answer is Refused(2), not "));
+    let Case::Read(case) = &failure.case else {
+        panic!("found in {:?}", failure.case);
     };
     assert!(case.text.iter().filter(|&&byte| byte == b'\n').count() >= 3 + 32_768);
 }

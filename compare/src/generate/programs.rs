@@ -7,7 +7,6 @@ use crate::paper::blocks::text_of;
 use crate::random::Random;
 
 /// An input of the program: its file, if there is one, and its standard input.
-#[derive(Clone)]
 pub struct ProgramCase {
     pub code: Option<Vec<u8>>,
     pub run_text: Vec<u8>,

@@ -56,7 +56,7 @@ fn lists_of(outcomes: &[Outcome; 2]) -> Vec<(&'static str, Vec<u8>)> {
 }
 
 /// The lists of the heads stand between each other.
-pub fn arena_of(case: &PairCase, random: &mut Random) -> Arena {
+fn arena_of(case: &PairCase, random: &mut Random) -> Arena {
     let [first, second] = [&case.first.lent, &case.second.lent];
     let lent = |head: usize, list: usize, length| Part::Lent(LISTS[head][list], length);
     let parts = [
@@ -81,7 +81,7 @@ pub fn arena_of(case: &PairCase, random: &mut Random) -> Arena {
 }
 
 /// The call in its allocation.
-pub fn answer_in(arena: &mut Arena, case: &PairCase, decoder: &dyn Decoder) -> u64 {
+fn answer_in(arena: &mut Arena, case: &PairCase, decoder: &dyn Decoder) -> u64 {
     let [
         starts,
         first_levels,

@@ -1,13 +1,12 @@
 //! The program itself, run as a process, against the paper's.
 
-use super::series::{Budget, Seen, Series};
+use super::series::{Budget, Series};
 use super::shrink::{LONGEST, cut_down};
-use super::threads::ask_all;
 use crate::generate::programs::{self, ProgramCase};
 use crate::paper;
 use crate::random::Random;
 use std::io::{self, Write};
-use std::path::{Path, PathBuf};
+use std::path::PathBuf;
 use std::process::{Command, Stdio};
 use std::time::Instant;
 use std::{env, fs, process};
@@ -16,83 +15,48 @@ const INPUTS_BEFORE_LIMITS: u64 = 50;
 
 /// A command and the folder of its own in which it finds `code.txt`.
 struct Program<'a> {
-    path: &'a Path,
+    path: PathBuf,
     arguments: &'a [String],
     folder: PathBuf,
 }
 
-/// Runs the command on each input, in a folder for each. Gives the series and, for the first input
-/// whose output differs, a description.
+/// Runs the command on each input. Gives the series and, for the first input whose output
+/// differs, a description.
 pub fn run_programs(
     command: &[String],
     seed: u64,
     budget: Budget,
 ) -> io::Result<(Series, Option<String>)> {
-    let path = fs::canonicalize(&command[0])?;
-    let folder = env::temp_dir().join(format!("compare-{}", process::id()));
-    fs::create_dir_all(&folder)?;
-    let in_folder = |input: u64| {
-        let program = Program {
-            path: &path,
-            arguments: &command[1..],
-            folder: folder.join(input.to_string()),
-        };
-        fs::create_dir(&program.folder).map(|()| program)
+    let begun = Instant::now();
+    let program = Program {
+        path: fs::canonicalize(&command[0])?,
+        arguments: &command[1..],
+        folder: env::temp_dir().join(format!("compare-{}", process::id())),
     };
-    let inputs = Inputs::of(seed);
-    let said = ask_all(budget, |input| {
-        let case = inputs.input(input);
+    fs::create_dir_all(&program.folder)?;
+    let mut series = Series::default();
+    let mut failure = None;
+    for case in inputs(seed) {
+        if failure.is_some() || budget.is_spent(series.inputs, begun) {
+            break;
+        }
+        series.inputs += 1;
         let expected = expected(&case);
-        let printed = in_folder(input).and_then(|program| {
-            let printed = program.run(&case)?;
-            fs::remove_dir_all(&program.folder)?;
-            Ok(printed)
-        });
-        match printed {
-            Ok(printed) if printed == expected => Ok(refusal_number(&expected)),
-            other => Err(other.map(|_| case)),
+        *series.tally.entry(("program", refusal_number(&expected))).or_default() += 1;
+        if program.run(&case)? != expected {
+            failure = Some(program.described(&program.shrunk(case))?);
         }
-    });
-    let mut numbers = said.before;
-    let failure = match said.failure {
-        None => None,
-        Some((input, case)) => {
-            let case = case?;
-            numbers.push(refusal_number(&expected(&case)));
-            let program = in_folder(input)?;
-            Some(program.described(&program.shrunk(case))?)
-        }
-    };
-    fs::remove_dir_all(&folder)?;
-    let mut series = Series { inputs: numbers.len() as u64, ..Series::default() };
-    for refusal in numbers {
-        series.note(&Seen { call: "program", refusal, iterations: None });
     }
+    fs::remove_dir_all(&program.folder)?;
     Ok((series, failure))
 }
 
-/// All inputs of a seed, by number and without end.
-struct Inputs {
-    seed: u64,
-    chosen: Vec<ProgramCase>,
-}
-
-impl Inputs {
-    fn of(seed: u64) -> Inputs {
-        let of_blocks = programs::of_blocks(&mut Random::new(seed));
-        Inputs { seed, chosen: [programs::at_limits(), of_blocks].concat() }
-    }
-
-    fn input(&self, number: u64) -> ProgramCase {
-        let random = |number| programs::any(&mut Random::for_input(self.seed, number));
-        match number.checked_sub(INPUTS_BEFORE_LIMITS) {
-            None => random(number),
-            Some(index) => match self.chosen.get(index as usize) {
-                Some(case) => case.clone(),
-                None => random(number - self.chosen.len() as u64),
-            },
-        }
-    }
+fn inputs(seed: u64) -> impl Iterator<Item = ProgramCase> {
+    let random = move |input| programs::any(&mut Random::for_input(seed, input));
+    let first = (0..INPUTS_BEFORE_LIMITS).map(random);
+    let of_blocks = programs::of_blocks(&mut Random::new(seed));
+    let chosen = programs::at_limits().into_iter().chain(of_blocks);
+    first.chain(chosen).chain((INPUTS_BEFORE_LIMITS..).map(random))
 }
 
 fn expected(case: &ProgramCase) -> Vec<u8> {
@@ -115,7 +79,7 @@ impl Program<'_> {
             None if file.exists() => fs::remove_file(&file)?,
             None => {}
         }
-        let mut child = Command::new(self.path)
+        let mut child = Command::new(&self.path)
             .args(self.arguments)
             .current_dir(&self.folder)
             .stdin(Stdio::piped())

@@ -45,7 +45,7 @@ pub struct Series {
 }
 
 impl Series {
-    pub fn note(&mut self, seen: &Seen) {
+    pub fn note(&mut self, seen: Seen) {
         *self.tally.entry((seen.call, seen.refusal)).or_default() += 1;
         if let Some(iterations) = seen.iterations {
             *self.iterations.entry(iterations).or_default() += 1;

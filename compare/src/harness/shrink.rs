@@ -19,7 +19,7 @@ use std::ops::Range;
 use std::time::{Duration, Instant};
 
 /// Shrinking ends after this time with what it has.
-pub const LONGEST: Duration = Duration::from_secs(120);
+pub const LONGEST: Duration = Duration::from_secs(20);
 
 /// Whether an input fails, asked until the time is over.
 struct Question<F> {

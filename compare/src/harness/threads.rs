@@ -22,14 +22,20 @@ pub fn ask_all<T: Send, E: Send>(
 ) -> Said<T, E> {
     let begun = Instant::now();
     let (next, first_failing) = (AtomicU64::new(0), AtomicU64::new(u64::MAX));
-    // Inputs are taken in order, so that a thread's own first failure is its lowest.
+    let is_over =
+        |input| budget.is_spent(input, begun) || input > first_failing.load(Ordering::Relaxed);
+    // Inputs are taken in order, so that a thread's own first failure is its lowest, and whoever
+    // takes one asks of it, so that none is left out before the last.
+    let taken = || {
+        let following = |input| (!is_over(input)).then_some(input + 1);
+        next.fetch_update(Ordering::Relaxed, Ordering::Relaxed, following).ok()
+    };
     let asked = || {
         let mut said = Vec::new();
         loop {
-            let input = next.fetch_add(1, Ordering::Relaxed);
-            if budget.is_spent(input, begun) || input > first_failing.load(Ordering::Relaxed) {
+            let Some(input) = taken() else {
                 return (said, None);
-            }
+            };
             match ask(input) {
                 Ok(answer) => said.push((input, answer)),
                 Err(error) => {
@@ -64,6 +70,15 @@ mod tests {
         let said = ask_all(Budget::Inputs(1_000), Ok::<u64, ()>);
         assert_eq!(said.before, (0..1_000).collect::<Vec<u64>>());
         assert_eq!(said.failure, None);
+    }
+
+    /// Wherever the time is over.
+    #[test]
+    fn none_is_left_out() {
+        for _ in 0..200 {
+            let said = ask_all(Budget::Time(Duration::from_micros(500)), Ok::<u64, ()>);
+            assert_eq!(said.before, (0..said.before.len() as u64).collect::<Vec<u64>>());
+        }
     }
 
     /// Inputs 40 and 41 fail, and 40 takes longer, so that another thread may go past it.
