@@ -2,22 +2,23 @@
 use mathlib.Core.Path.{◌≡◌, refl, sym, ap, ◌∙◌}
 use mathlib.Core.Bool.{Bool, true, false, ◌&&◌, true≢false}
 use mathlib.Core.List.{List}
-use Prim.Native.Nat.{ℕ, ◌-◌, ◌<◌}
+use Prim.Native.Nat.{ℕ, ◌-◌, ◌/◌, ◌<◌}
 use native.Mathlib.Decide.{dec_lt}
 use native.Mathlib.Omega.{arith}
 use borrow.Author.Tests.{leb-true, le-leb, lt-leb}
-use lib.Dec.{leb}
+use lib.Dec.{eqb, leb}
 use lib.ListN.{length}
 use Rattle.rules.specs.Graphs.{Graph, Wider, limits, AdmittedWithin}
 use Rattle.refusals.specs.Refusals.{unless, or_else}
 use Rattle.refusals.specs.declared.Judged.{Judged}
-use Rattle.refusals.specs.declared.Judged.TheVariants.{Refused}
-use Rattle.refusals.specs.declared.Refusal.TheVariants.{Count}
+use Rattle.refusals.specs.declared.Judged.TheVariants.{Admitted, Refused}
+use Rattle.refusals.specs.declared.Refusal.TheVariants.{Count, Positions}
 use Rattle.rules.proofs.Tests.{and_left, and_right}
 use Rattle.graphs.specs.Judging.{counts_judged, shape_judged, countable, graph_judged_in}
+use Rattle.graphs.specs.Calls.{bytes_judged}
 use Rattle.graphs.specs.Degrees.{Checks}
 use Rattle.graphs.proofs.Wider.{check_degrees_alike, variable_degrees_alike}
-use Rattle.codewords.specs.Encoding.{encoder_limits, given_judged, input_judged, JudgesInput}
+use Rattle.codewords.specs.Encoding.{encoder_limits, positions_judged, given_judged, input_judged, JudgesInput}
 
 encoder_wider : Wider encoder_limits limits
 encoder_wider = record { variables = omega arith; checks = omega arith; entries = omega arith; check_degree = refl; variable_degree = refl }
@@ -88,3 +89,15 @@ module _ (G : Graph) where
       answer = e ∙ ap (λ x. or_else x (given_judged G.variables positions given)) (k.answer ∙ sym (graph_alike (length d)));
       degrees = k.degrees ∙ sym (rw (countable_alike (length d)));
     }
+
+-- ---- what is refused of the given bits
+
+or_else_assoc : (a b c : Judged) → or_else a (or_else b c) ≡ or_else (or_else a b) c
+or_else_assoc Admitted b c = refl
+or_else_assoc (Refused r) b c = refl
+
+-- all of 18 comes before 15
+pub positions_first : (n : ℕ) (positions given : List ℕ)
+    → given_judged n positions given ≡ or_else (or_else (unless (eqb (length positions / 2) (length given)) Positions) (positions_judged n positions)) (bytes_judged given)
+unfolding given_judged
+positions_first n positions given = or_else_assoc (unless (eqb (length positions / 2) (length given)) Positions) (positions_judged n positions) (bytes_judged given)

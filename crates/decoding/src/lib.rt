@@ -43,8 +43,3 @@ pub enum CheckedPair {
     Good(Settings, Settings),
     Refused(Party, Refusal),
 }
-
-// The least and the largest allowance.
-pub const LEAST_ALLOWANCE: usize = 2;
-
-pub const LARGEST_ALLOWANCE: usize = 510;

@@ -19,6 +19,11 @@ use settings::{Checked, Parameters, Settings};
 
 mod head; // one head's run
 
+// The least and the largest allowance.
+pub const LEAST_ALLOWANCE: usize = 2;
+
+pub const LARGEST_ALLOWANCE: usize = 510;
+
 // The reports of both heads.
 #[derive(Clone, Copy)]
 pub struct Reports {
@@ -66,11 +71,7 @@ pub fn accept(
             match c {
                 Checked::Refused(r) => CheckedPair::Refused(Party::Second, r),
                 Checked::Good(second) => {
-                    if rules::in_range(
-                        decoding::LEAST_ALLOWANCE,
-                        allowance as usize,
-                        decoding::LARGEST_ALLOWANCE,
-                    ) {
+                    if rules::in_range(LEAST_ALLOWANCE, allowance as usize, LARGEST_ALLOWANCE) {
                         return CheckedPair::Good(first, second);
                     }
                     CheckedPair::Refused(Party::Pair, Refusal::Allowance)

@@ -9,12 +9,12 @@ use Rattle.refusals.specs.declared.Refusal.{Refusal}
 use Rattle.graphs.specs.Judging.{graph_judged_in}
 use Rattle.settings.specs.declared.Settings.{Settings}
 use Rattle.decoding.specs.declared.Room.{Room}
-use Rattle.decoding.specs.Decoding.{decode_judged, decode_finds}
+use Rattle.decoding.specs.Decoding.{Memory, decode_judged, decode_finds}
 use Rattle.decoding.proofs.Accepting.{frame_passed, memory_told}
 use Rattle.decoding.specs.declared.CheckedPair.TheVariants as Pairs
 use Rattle.decoding.specs.declared.Party.{Party}
 use Rattle.decoding.specs.declared.Party.TheVariants.{First, Second, Pair}
-use Rattle.decoding.specs.Pairing.Pairs.{Heads, Found, admitted, refused, found_of, allowance_judged, checked_pair, graph_of_both, first_frame, second_frame, pair_finds}
+use Rattle.decoding.specs.Pairing.Pairs.{Heads, Found, admitted, refused, found_of, allowance_judged, checked_pair, graph_of_both, first_frame, second_frame, pair_finds, first_after, second_after}
 
 found_told : (p : Party) (j : Judged) (rest : Found) → found_of p j rest ≡ admitted → (j ≡ Judgement.Admitted) × (rest ≡ admitted)
 found_told p Judgement.Admitted rest h = (refl, h)
@@ -52,3 +52,7 @@ module _ (P : Heads) (d : ℕ) (m m' : Room) where
 pub found_refused : (f : Found) (s s' : Settings) {p : Party} {r : Refusal} → checked_pair f s s' ≡ Pairs.Refused p r → f ≡ refused p r
 found_refused admitted s s' h = let z : ◌≡◌ {A = ℕ} 0 1 = cc in absurd (omega arith)
 found_refused (refused q x) s s' h = ap₂ refused (cc) (cc)
+
+-- a refusal changes no byte of either head's memory
+pub refused_kept : (P : Heads) (p : Party) (r : Refusal) (M N : Memory) → (first_after P (refused p r) M ≡ M) × (second_after P (refused p r) N ≡ N)
+refused_kept P p r M N = (refl, refl)
