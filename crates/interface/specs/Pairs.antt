@@ -1,6 +1,6 @@
 -- The C entry for two heads: its answer packed into one number, the reports in their list, and what entry and companion promise.
-use Rattle.std.specs.Prelude.{◌≡◌, cond, List, ◌++◌, ℕ, ◌+◌, ◌*◌, ◌/◌, ◌%◌, ◌≤◌, eqb, leb, length, drop}
-use Rattle.rules.specs.Graphs.{Graph, limits, between}
+use Rattle.std.specs.Prelude.{◌≡◌, cond, List, ◌++◌, ℕ, ◌+◌, ◌*◌, ◌/◌, ◌%◌, eqb, leb, length, drop}
+use Rattle.rules.specs.Graphs.{Graph, limits}
 use Rattle.refusals.specs.Refusals.{paper, unless}
 use Rattle.refusals.specs.declared.Refusal.{Refusal}
 use Rattle.refusals.specs.declared.Refusal.TheVariants as Refusals
@@ -12,10 +12,8 @@ use Rattle.decoding.specs.declared.Decoded.TheVariants.{Ran}
 use Rattle.decoding.specs.Decoding.{Memory, room_of}
 use Rattle.decoding.specs.declared.Party.{Party}
 use Rattle.decoding.specs.declared.Party.TheVariants.{First, Second, Pair}
-use Rattle.decoding.specs.declared.Paired.{Paired}
-use Rattle.decoding.specs.declared.Paired.TheVariants as Answer
 use Rattle.decoding.specs.Pairing.Pairs.{Heads, Found, admitted, refused, found_of, graph_of_both, pair_finds, first_report, second_report, first_after, second_after}
-use Rattle.interface.specs.Packing.{Small, pack_decoded, decode_place}
+use Rattle.interface.specs.Packing.{pack_decoded, decode_place}
 
 -- 'The answer the refusal's number and the head': a byte for the number, a byte for the head, 0 where it is neither's; 0 where nothing is refused.
 abbrev pub party_number : Party → ℕ
