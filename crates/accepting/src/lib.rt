@@ -1,16 +1,15 @@
 // Which frames are accepted.
 #![tactic(auto)]
 
-ghost use Rattle.std.specs.Prelude.{◌≡◌, ◌≤◌, ◌<◌};
-ghost use Rattle.rules.specs.Graphs.{limits, Admitted};
-ghost use Rattle.refusals.specs.declared.Judged.TheVariants as Judgement;
-ghost use Rattle.decoding.specs.Frames.{frame};
+ghost use Rattle.std.specs.Prelude.{◌≡◌, ◌≤◌};
+ghost use Rattle.rules.specs.Graphs.{limits};
 ghost use Rattle.settings.specs.Settings.{settings, checked};
+ghost use Rattle.decoding.specs.Frames.{frame_lent};
 ghost use Rattle.decoding.specs.Decoding.{Accepts, decode_judged, enough};
 
-use decoding::Room;
-use refusals::{Judged, Refusal};
-use settings::{Checked, Parameters};
+use decoding::{Frame, Room};
+use refusals::Refusal;
+use settings::Settings;
 
 // Whether lent memory of these lengths is long enough for n variables and e entries.
 pub fn long_enough(n: usize, e: usize, room: Room) -> bool
@@ -23,55 +22,31 @@ pub fn long_enough(n: usize, e: usize, room: Room) -> bool
 }
 
 // The settings of a frame on a graph that is in order, or why it is turned down where memory of these lengths is lent.
-pub fn accept_on(
-    n: usize,
-    starts: &[u8],
-    columns: &[u8],
-    values: &[u8],
-    asked: Parameters,
-    room: Room,
-) -> Checked
-    requires { n ≤ limits.variables }
-    ensures { result ≡ checked (decode_judged (frame n starts.now columns.now values.now asked) Judgement.Admitted room) (settings asked) }
+pub fn accept_on(frame: Frame, room: Room) -> Result<Settings, Refusal>
+    requires { frame.graph.variables ≤ limits.variables }
+    ensures { result ≡ checked (decode_judged (frame_lent frame.entry) (Ok tt) room) (settings frame.entry.asked) }
 {
-    let count = values.len() / 4;
-    if count != n {
-        return Checked::Refused(Refusal::Length(count));
+    let count = frame.values.len() / 4;
+    if count != frame.graph.variables {
+        return Err(Refusal::Length(count));
     }
-    let c = channel::check_settings(asked);
-    let Checked::Good(s) = c else {
-        return c;
-    };
-    let j = quantiser::check_values(values);
-    if let Judged::Refused(r) = j {
-        return Checked::Refused(r);
-    }
-    let blank = quantiser::is_blank(values, s.factor);
-    let enough = long_enough(n, columns.len() / words::WIDE, room);
+    let settings = channel::check_settings(frame.asked)?;
+    quantiser::check_values(frame.values)?;
+    let blank = quantiser::is_blank(frame.values, settings.factor);
+    let enough = long_enough(frame.graph.variables, frame.graph.entries(), room);
     if blank {
-        return Checked::Refused(Refusal::Blank);
+        return Err(Refusal::Blank);
     }
     if !enough {
-        return Checked::Refused(Refusal::Buffer);
+        return Err(Refusal::Buffer);
     }
-    c
+    Ok(settings)
 }
 
 // The settings of a frame, or why it is turned down where memory of these lengths is lent; counts the variables' degrees in the lent list.
-pub fn accept(
-    n: usize,
-    starts: &[u8],
-    columns: &[u8],
-    values: &[u8],
-    asked: Parameters,
-    degrees: &mut [u8],
-    room: Room,
-) -> Checked
-    ensures { Accepts (frame n starts.now columns.now values.now asked) room result degrees.old degrees.new }
+pub fn accept(frame: Frame, degrees: &mut [u8], room: Room) -> Result<Settings, Refusal>
+    ensures { Accepts (frame_lent frame.entry) room result degrees.old degrees.new }
 {
-    let j = graph::check(n, starts, columns, degrees);
-    if let Judged::Refused(r) = j {
-        return Checked::Refused(r);
-    }
-    accept_on(n, starts, columns, values, asked, room)
+    graph::check(frame.graph, degrees)?;
+    accept_on(frame, room)
 }

@@ -1,4 +1,5 @@
 -- The loop that looks for 5 at the first variable of each block column, one block column on.
+use Rattle.std.specs.Prelude.{Ok, Err}
 use mathlib.Core.Path.{◌≡◌, sym, ap, ◌∙◌}
 use mathlib.Core.Bool.{Bool, true, false}
 use mathlib.Core.List.{List}
@@ -9,7 +10,6 @@ use native.Mathlib.Omega.{arith}
 use Rattle.rules.specs.Graphs.{limits, least_variable_degree, between}
 use Rattle.refusals.specs.declared.Refusal.{Refusal}
 use Rattle.refusals.specs.declared.Refusal.TheVariants.{Degree}
-use Rattle.refusals.specs.declared.Judged.TheVariants.{Admitted, Refused}
 use Rattle.refusals.proofs.Judging.{Passed, passed_none, passed_more, passed_all, failed_at}
 use Rattle.words.specs.Roles.{degree_at}
 use Rattle.block_sheets.specs.Text.Scanning.{counts_in}
@@ -41,8 +41,8 @@ module _ {k : Counts} {d : List ℕ} {j v : ℕ} (q : Looking k d j v) where
     here : test k d j ≡ b
     here = ap (λ (n : ℕ). between least_variable_degree (degree_at d n) limits.variable_degree) (sym q.at) ∙ sym e
 
-    pub looking_failed : b ≡ false → j < k.columns → Refused (Degree (k.rows * k.size + v)) ≡ column_degrees_judged (counts_in k) d
-    looking_failed t l = ap (λ (n : ℕ). Refused (Degree (k.rows * k.size + n))) q.at ∙ sym (failed_at q.passed (here ∙ t) l)
+    pub looking_failed : b ≡ false → j < k.columns → Err (Degree (k.rows * k.size + v)) ≡ column_degrees_judged (counts_in k) d
+    looking_failed t l = ap (λ (n : ℕ). Err (Degree (k.rows * k.size + n))) q.at ∙ sym (failed_at q.passed (here ∙ t) l)
 
     pub looking_more : b ≡ true → j < k.columns → Looking k d (j + 1) (v + k.size)
     looking_more t l = record {
@@ -51,5 +51,5 @@ module _ {k : Counts} {d : List ℕ} {j v : ℕ} (q : Looking k d j v) where
       passed = passed_more q.passed (here ∙ t);
     }
 
-  pub looking_all : k.columns ≤ j → Admitted ≡ column_degrees_judged (counts_in k) d
+  pub looking_all : k.columns ≤ j → (Ok tt) ≡ column_degrees_judged (counts_in k) d
   looking_all l = sym (passed_all q.passed (omega (arith, q.up)))

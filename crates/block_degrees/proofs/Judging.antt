@@ -1,4 +1,5 @@
 -- The degrees of an expansion, from what was counted; and 5.
+use Rattle.std.specs.Prelude.{Err}
 use mathlib.Core.Path.{◌≡◌, sym, ap, ◌∙◌, subst}
 use mathlib.Core.List.{List, ◌++◌}
 use Prim.Native.Nat.{ℕ, ◌+◌, ◌*◌, ◌≤◌, ◌<◌}
@@ -8,10 +9,8 @@ use lib.Dec.{eqb}
 use lib.ListN.{length, drop, length-map}
 use Rattle.rules.specs.Ranges.{count}
 use Rattle.rules.specs.Graphs.{limits, least_variable_degree, between, variable_degree}
-use Rattle.refusals.specs.Refusals.{unless}
+use Rattle.refusals.specs.Refusals.{unless, Judged}
 use Rattle.refusals.specs.declared.Refusal.TheVariants.{Degree}
-use Rattle.refusals.specs.declared.Judged.{Judged}
-use Rattle.refusals.specs.declared.Judged.TheVariants.{Refused}
 use Rattle.rules.proofs.Ranges.{count_ext}
 use Rattle.refusals.proofs.Judging.{each_same}
 use Rattle.words.specs.Words.{table}
@@ -63,7 +62,7 @@ module _ {b : Blocks} (v : Valid b) where
         ∙ sym (by_column b v.ordered)
 
     module _ {later : List ℕ} (s : Spread b.columns b.size now later) where
-      checks_refused : rows.low < b.rows → Judges limits (expansion b) (Refused (Degree (rows.low * b.size))) old later
+      checks_refused : rows.low < b.rows → Judges limits (expansion b) (Err (Degree (rows.low * b.size))) old later
       checks_refused l = record {
         answer = sym (rw (checks_are b v.ordered rows c.to c.rows_are, lt-leb b.rows rows.low l));
         degrees = degrees_are s;
@@ -78,9 +77,9 @@ module _ {b : Blocks} (v : Valid b) where
 -- ---- in the numbers of the code
 
 module _ (k : Counts) (rows : Rows) {now later : List ℕ} (s : Spread k.columns k.size now later) where
-  pub judge_checks : rows.low < k.rows → JudgesBlocks k rows (Refused (Degree (rows.low * k.size))) now later
+  pub judge_checks : rows.low < k.rows → JudgesBlocks k rows (Err (Degree (rows.low * k.size))) now later
   judge_checks l b old v e c =
-      subst (λ (t : Triple). Judges limits (expansion b) (Refused (Degree (rows.low * t.first))) old later) e
+      subst (λ (t : Triple). Judges limits (expansion b) (Err (Degree (rows.low * t.first))) old later) e
       (checks_refused v c (subst (λ (t : Triple). Spread t.third t.first now later) (sym e) s) (omega (arith, ap (λ (t : Triple). t.second) e)))
 
   pub judge_variables : k.rows ≤ rows.low → {r : Judged} → r ≡ column_degrees_judged (counts_in k) now → JudgesBlocks k rows r now later

@@ -1,4 +1,5 @@
 -- 5 of an expansion, by its blocks: tests that come Z at a time, with their places.
+use Rattle.std.specs.Prelude.{Ok, Err}
 use mathlib.Core.Path.{◌≡◌, refl, sym, ap, ap₂, ◌∙◌}
 use mathlib.Core.Bool.{Bool, true, false}
 use Prim.Native.Nat.{ℕ, zero, suc, ◌+◌, ◌-◌, ◌*◌, ◌/◌, ◌<◌}
@@ -7,11 +8,9 @@ use native.Mathlib.Numerals.{add-one}
 use native.Mathlib.Omega.{arith}
 use lib.Dec.{leb}
 use Rattle.rules.specs.Graphs.{limits, least_check_degree, least_variable_degree, between, check_degree, variable_degree}
-use Rattle.refusals.specs.Refusals.{paper, unless, or_else, each}
+use Rattle.refusals.specs.Refusals.{paper, unless, or_else, each, Judged}
 use Rattle.refusals.specs.declared.Refusal.{Refusal}
 use Rattle.refusals.specs.declared.Refusal.TheVariants.{Degree}
-use Rattle.refusals.specs.declared.Judged.{Judged}
-use Rattle.refusals.specs.declared.Judged.TheVariants.{Admitted, Refused}
 use Rattle.refusals.proofs.Judging.{each_none, each_next, each_same}
 use Rattle.graphs.specs.Judging.{check_degrees_judged, variable_degrees_judged}
 use Rattle.code_sheets.specs.Reader.Storing.{RowsTo}
@@ -24,9 +23,9 @@ use Rattle.block_text.proofs.Degrees.{degrees}
 
 -- a test that failed before, or passes again, adds nothing
 again : (x : Judged) (b : Bool) (p q : Refusal) → or_else (or_else x (unless b p)) (unless b q) ≡ or_else x (unless b p)
-again Admitted true p q = refl
-again Admitted false p q = refl
-again (Refused r) b p q = refl
+again (Ok _) true p q = refl
+again (Ok _) false p q = refl
+again (Err r) b p q = refl
 
 -- tests that come Z at a time
 module _ (test : ℕ → Bool) (at : ℕ → Refusal) (Z : ℕ) where
@@ -54,12 +53,12 @@ module _ (test : ℕ → Bool) (at : ℕ → Refusal) (Z : ℕ) where
 -- ---- the same tests with other refusals
 
 abbrev moved : (Refusal → Refusal) → Judged → Judged
-moved f Admitted = Admitted
-moved f (Refused r) = Refused (f r)
+moved f (Ok _) = Ok tt
+moved f (Err r) = Err (f r)
 
 moved_else : (f : Refusal → Refusal) (a b : Judged) → or_else (moved f a) (moved f b) ≡ moved f (or_else a b)
-moved_else f Admitted b = refl
-moved_else f (Refused r) b = refl
+moved_else f (Ok _) b = refl
+moved_else f (Err r) b = refl
 
 moved_unless : (f : Refusal → Refusal) (t : Bool) (r : Refusal) → unless t (f r) ≡ moved f (unless t r)
 moved_unless f true r = refl

@@ -1,9 +1,8 @@
 -- 5 on the blocks: what counting their entries owes, before anything of the expansion is stored.
 use Rattle.std.specs.Prelude.{◌≡◌, List, ◌++◌, ℕ, zero, suc, ◌+◌, ◌*◌, ◌≤◌, ◌<◌, length, drop}
 use Rattle.rules.specs.Graphs.{limits, least_variable_degree, between}
-use Rattle.refusals.specs.Refusals.{unless, each}
+use Rattle.refusals.specs.Refusals.{unless, each, Judged}
 use Rattle.refusals.specs.declared.Refusal.TheVariants.{Degree}
-use Rattle.refusals.specs.declared.Judged.{Judged}
 use Rattle.words.specs.Words.{stored, table}
 use Rattle.words.specs.Roles.{degree_at}
 use Rattle.graphs.specs.Counting.{tally}

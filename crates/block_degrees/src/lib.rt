@@ -7,42 +7,38 @@ ghost use Rattle.block_degrees.specs.Counting.{cleared, column_degrees_judged, S
 
 use block_sheets::Counts;
 use code_sheets::Rows;
-use refusals::{Judged, Refusal};
+use refusals::Refusal;
 
 // Makes the degree of the first variable of each block column 0.
 pub fn clear(degrees: &mut [u8], columns: usize, size: usize)
     requires { (0 < size) × (4 * (columns * size) ≤ length degrees.old) }
     ensures { degrees.new ≡ cleared columns size degrees.old }
 {
-    let mut j: usize = 0;
     let mut v: usize = 0;
-    while j < columns {
+    for j in 0..columns {
         words::put_degree(degrees, v, 0);
         v += size;
-        j += 1;
     }
 }
 
 // 5 for the variables, where each entry is counted at the first variable of its block column.
-fn judge_columns(counts: Counts, degrees: &[u8]) -> Judged
+fn judge_columns(counts: Counts, degrees: &[u8]) -> Result<(), Refusal>
     requires { Judgeable counts degrees.now }
     ensures { result ≡ column_degrees_judged (counts_in counts) degrees.now }
 {
     let m = counts.rows * counts.size;
-    let mut j: usize = 0;
     let mut v: usize = 0;
-    while j < counts.columns {
+    for j in 0..counts.columns {
         if !rules::in_range(
             rules::LEAST_VARIABLE_DEGREE,
             words::degree(degrees, v),
             rules::LARGEST_VARIABLE_DEGREE,
         ) {
-            return Judged::Refused(Refusal::Degree(m + v));
+            return Err(Refusal::Degree(m + v));
         }
         v += counts.size;
-        j += 1;
     }
-    Judged::Admitted
+    Ok(())
 }
 
 // Gives every variable of a block column the number of the first.
@@ -50,25 +46,23 @@ fn spread(degrees: &mut [u8], columns: usize, size: usize)
     requires { (0 < size) × (4 * (columns * size) ≤ length degrees.old) }
     ensures { Spread columns size degrees.old degrees.new }
 {
-    let mut j: usize = 0;
     let mut v: usize = 0;
-    while j < columns {
+    for j in 0..columns {
         let d = words::degree(degrees, v);
         sheet::fill(degrees, v, v + size, d);
         v += size;
-        j += 1;
     }
 }
 
 // 5, where each entry is counted at the first variable of its block column, and the block rows went by.
-pub fn judge(counts: Counts, rows: Rows, degrees: &mut [u8]) -> Judged
+pub fn judge(counts: Counts, rows: Rows, degrees: &mut [u8]) -> Result<(), Refusal>
     requires { Judgeable counts degrees.old }
     ensures { JudgesBlocks counts rows result degrees.old degrees.new }
 {
     let columns = judge_columns(counts, degrees);
     spread(degrees, counts.columns, counts.size);
     if rows.low < counts.rows {
-        return Judged::Refused(Refusal::Degree(rows.low * counts.size));
+        return Err(Refusal::Degree(rows.low * counts.size));
     }
     columns
 }

@@ -45,8 +45,8 @@ module _ {b : Blocks} {s : List ℕ} {from left i : ℕ} {bases₀ shifts₀ : L
           shifts_are = subst (Filled wide (shift_of b i) shifts₀ shifts) (sym e) g.shifts_are;
         }
 
-    pub going_all : left ≤ d → RowRead b s i (record { degree = d; next = at }) bases₀ bases shifts₀ shifts
-    going_all l = ended (omega (arith, h.left_is, many b h.valid.ordered (suc i))) refl refl
+    pub going_all : left ≡ d → RowRead b s i (record { degree = left; next = at }) bases₀ bases shifts₀ shifts
+    going_all l = ended (omega (arith, h.left_is, many b h.valid.ordered (suc i))) l refl
 
     module _ (l : d < left) where
       going_few : start_of_block b i + d < length b.entries

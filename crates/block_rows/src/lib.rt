@@ -26,22 +26,20 @@ fn read_row(
     ensures { (b : Blocks) → b.size ≡ size → RowAt b text.now from left i (length bases.old) (length shifts.old) → RowRead b text.now i result bases.old bases.new shifts.old shifts.new }
 {
     let mut at = from;
-    let mut d: usize = 0;
-    while d < left {
+    for d in 0..left {
         let line = lines::known_three_at(text, at);
-        if line.first != i {
+        if line.value.0 != i {
             return Row {
                 degree: d,
                 next: at,
             };
         }
-        words::put_column(bases, d, line.second * size);
-        words::put_column(shifts, d, line.third);
+        words::put_column(bases, d, line.value.1 * size);
+        words::put_column(shifts, d, line.value.2);
         at = line.next;
-        d += 1;
     }
     Row {
-        degree: d,
+        degree: left,
         next: at,
     }
 }
@@ -51,10 +49,8 @@ fn put_along(columns: &mut [u8], e: usize, d: usize, x: usize, count: usize)
     requires { (0 < d) × (x + count ≤ 256 ^ wide) × ((r : ℕ) → r < count → wide * suc (e + r * d) ≤ length columns.old) }
     ensures { PutsAlong e d count (λ r. x + r) columns.old columns.new }
 {
-    let mut r: usize = 0;
-    while r < count {
+    for r in 0..count {
         words::put_column(columns, e + r * d, x + r);
-        r += 1;
     }
 }
 
@@ -74,12 +70,10 @@ fn put_row(columns: &mut [u8], e: usize, bases: &[u8], shifts: &[u8], d: usize, 
     requires { Ones bases.now shifts.now d size × (e + size * d + d ≤ 256 ^ wide) × (wide * (e + size * d) ≤ length columns.old) }
     ensures { PutsRow bases.now shifts.now d size e columns.old columns.new }
 {
-    let mut p: usize = 0;
-    while p < d {
+    for p in 0..d {
         let base = words::column(bases, p);
         let shift = words::column(shifts, p);
         put_entry(columns, e + p, d, base, shift, size);
-        p += 1;
     }
 }
 
@@ -88,10 +82,8 @@ fn put_starts(starts: &mut [u8], c: usize, size: usize, x: usize, d: usize)
     requires { (x + size * d < 256 ^ wide) × (wide * (c + size) ≤ length starts.old) }
     ensures { (f : ℕ → ℕ) (old : List ℕ) → Filled wide f old starts.old c → ((r : ℕ) → r < size → x + r * d ≡ f (c + r)) → Filled wide f old starts.new (c + size) }
 {
-    let mut r: usize = 0;
-    while r < size {
+    for r in 0..size {
         words::put_start(starts, c + r, x + r * d);
-        r += 1;
     }
 }
 
@@ -105,10 +97,9 @@ pub fn store(text: &[u8], at: usize, counts: Counts, starts: &mut [u8], columns:
     let mut shifts = [0u8; words::WIDE * rules::LARGEST_CHECK_DEGREE];
     let mut left = counts.entries;
     let mut from = at;
-    let mut i: usize = 0;
     let mut c: usize = 0;
     let mut e: usize = 0;
-    while i < counts.rows {
+    for i in 0..counts.rows {
         let row = read_row(text, from, left, i, counts.size, &mut bases, &mut shifts);
         let d = row.degree;
         put_starts(starts, c, counts.size, e, d);
@@ -117,7 +108,6 @@ pub fn store(text: &[u8], at: usize, counts: Counts, starts: &mut [u8], columns:
         left -= d;
         c += counts.size;
         e += counts.size * d;
-        i += 1;
     }
     words::put_start(starts, c, e);
 }

@@ -8,9 +8,9 @@ ghost use Rattle.block_sheets.specs.Reader.Reading.{BlocksReadInto, BlocksJudged
 ghost use Rattle.block_degrees.specs.Counting.{BlocksCounted, Judgeable};
 ghost use Rattle.block_sheets.specs.Reader.Storing.{blocks_from, BlocksAt};
 
-use block_sheets::{Counts, Scanned};
-use code_sheets::{Rows, Sheet};
-use refusals::{Judged, Refusal};
+use block_sheets::Counts;
+use code_sheets::Rows;
+use refusals::Refusal;
 
 // ---- 5
 
@@ -26,15 +26,14 @@ fn count_lines(text: &[u8], at: usize, counts: Counts, degrees: &mut [u8]) -> Ro
         first: 0,
     };
     let mut i = at;
-    let mut q: usize = 0;
-    while q < counts.entries {
+    for q in 0..counts.entries {
         let line = lines::known_three_at(text, i);
-        rows = sheet_lines::go_on(rows, line.first, q);
-        degrees::add_one(degrees, line.second * counts.size);
+        let (row, column, _) = line.value;
+        rows = sheet_lines::go_on(rows, row, q);
+        degrees::add_one(degrees, column * counts.size);
         i = line.next;
-        q += 1;
     }
-    sheet_lines::go_on(rows, counts.rows, q)
+    sheet_lines::go_on(rows, counts.rows, counts.entries)
 }
 
 // ---- the reader
@@ -47,25 +46,22 @@ fn judge_blocks(
     degrees: &mut [u8],
     starts: usize,
     columns: usize,
-) -> Judged
+) -> Result<(), Refusal>
     requires { BlocksAt text.now counts at }
     ensures { AfterLines (expansion (blocks_from text.now counts at)) result degrees.old degrees.new starts columns }
 {
     if degrees.len() / 4 < counts.columns * counts.size {
-        return Judged::Refused(Refusal::Buffer);
+        return Err(Refusal::Buffer);
     }
     let rows = count_lines(text, at, counts, degrees);
-    let j = block_degrees::judge(counts, rows, degrees);
-    if let Judged::Refused(r) = j {
-        return Judged::Refused(r);
-    }
+    block_degrees::judge(counts, rows, degrees)?;
     if starts / words::WIDE <= counts.rows * counts.size {
-        return Judged::Refused(Refusal::Buffer);
+        return Err(Refusal::Buffer);
     }
     if columns / words::WIDE < counts.size * counts.entries {
-        return Judged::Refused(Refusal::Buffer);
+        return Err(Refusal::Buffer);
     }
-    Judged::Admitted
+    Ok(())
 }
 
 // What follows the last line: only where nothing is refused are the starts and columns stored.
@@ -76,47 +72,43 @@ fn finish(
     degrees: &mut [u8],
     starts: &mut [u8],
     columns: &mut [u8],
-) -> Sheet
+) -> Result<code_sheets::Counts, Refusal>
     requires { BlocksAt text.now counts at }
     ensures { Finished (expansion (blocks_from text.now counts at)) result degrees.old degrees.new starts.old starts.new columns.old columns.new }
 {
     let room_starts = starts.len();
     let room_columns = columns.len();
-    let j = judge_blocks(text, at, counts, degrees, room_starts, room_columns);
-    if let Judged::Refused(r) = j {
-        return Sheet::Refused(r);
-    }
+    judge_blocks(text, at, counts, degrees, room_starts, room_columns)?;
     block_rows::store(text, at, counts, starts, columns);
-    let read = code_sheets::Counts {
+    Ok(code_sheets::Counts {
         variables: counts.columns * counts.size,
         checks: counts.rows * counts.size,
         entries: counts.size * counts.entries,
-    };
-    Sheet::Read(read)
+    })
 }
 
 // Number and place of what `read` refuses for lists of so many bytes; the list of degrees as that leaves it.
-pub fn judge_read(text: &[u8], degrees: &mut [u8], starts: usize, columns: usize) -> Judged
+pub fn judge_read(
+    text: &[u8],
+    degrees: &mut [u8],
+    starts: usize,
+    columns: usize,
+) -> Result<(), Refusal>
     ensures { BlocksJudgedInto text.now result degrees.old degrees.new starts columns }
 {
-    let scanned = block_text::scan(text);
-    match scanned {
-        Scanned::Refused(r) => Judged::Refused(r),
-        Scanned::Lines(counts, at) => judge_blocks(text, at, counts, degrees, starts, columns),
-    }
+    let (counts, at) = block_text::scan(text)?;
+    judge_blocks(text, at, counts, degrees, starts, columns)
 }
 
 // Reads a block sheet: the refusals in their order, and only then the lists; counts the variables' degrees in the list lent for them.
-pub fn read(text: &[u8], degrees: &mut [u8], starts: &mut [u8], columns: &mut [u8]) -> Sheet
+pub fn read(
+    text: &[u8],
+    degrees: &mut [u8],
+    starts: &mut [u8],
+    columns: &mut [u8],
+) -> Result<code_sheets::Counts, Refusal>
     ensures { BlocksReadInto text.now result degrees.old degrees.new starts.old starts.new columns.old columns.new }
 {
-    let scanned = block_text::scan(text);
-    match scanned {
-        Scanned::Refused(r) => {
-            return Sheet::Refused(r);
-        }
-        Scanned::Lines(counts, at) => {
-            return finish(text, at, counts, degrees, starts, columns);
-        }
-    }
+    let (counts, at) = block_text::scan(text)?;
+    finish(text, at, counts, degrees, starts, columns)
 }

@@ -1,7 +1,5 @@
-// What the lines of a block sheet give. What they mean is in specs/.
+// What the lines of a block sheet give, and what one is written of. What they mean is in specs/.
 #![tactic(auto)]
-
-use refusals::Refusal;
 
 // Size, counts of rows and columns, and how many entries.
 #[derive(Clone, Copy)]
@@ -12,11 +10,13 @@ pub struct Counts {
     pub entries: usize,
 }
 
-// The first refusal of the lines, or the counts and the place of the first entry's line.
-#[derive(Drop)]
-pub enum Scanned {
-    Refused(Refusal),
-    Lines(Counts, usize),
+// What a block sheet is written of: size, counts of rows and columns, and the entries in a list of bytes.
+#[derive(Clone, Copy)]
+pub struct Blocks<'a> {
+    pub size: usize,
+    pub rows: usize,
+    pub columns: usize,
+    pub entries: &'a [u8],
 }
 
 // How many entries a block row has, and the place after their lines.

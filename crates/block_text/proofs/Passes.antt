@@ -1,4 +1,5 @@
 -- The first pass: the loop over the entries' lines, one line on.
+use Rattle.std.specs.Prelude.{Ok, Err}
 use mathlib.Core.Path.{◌≡◌, sym, ap, ◌∙◌, subst}
 use mathlib.Core.List.{List}
 use Prim.Native.Nat.{ℕ, ◌+◌, ◌≤◌, ◌<◌}
@@ -6,8 +7,7 @@ use native.Mathlib.Omega.{arith}
 use lib.ListN.{length, drop}
 use Rattle.refusals.specs.declared.Refusal.{Refusal}
 use Rattle.refusals.specs.declared.Refusal.TheVariants.{Form}
-use Rattle.refusals.specs.declared.Judged.{Judged}
-use Rattle.refusals.specs.declared.Judged.TheVariants.{Admitted, Refused}
+use Rattle.refusals.specs.Refusals.{Judged}
 use Rattle.texts.specs.Numbers.{other}
 use Rattle.texts.specs.Lines.{pair, fixed}
 use Rattle.texts.specs.Places.{FixedRead}
@@ -26,10 +26,10 @@ module _ {Z m n : ℕ} {s : List ℕ} {from at k i0 j0 : ℕ} (q : Scanning bloc
   judged : {x : Judged} → j ≡ x → block_judged (triple Z m n) (k + 4) (pair i0 j0) r.numbers ≡ x
   judged {x} p = sym (capped_block (triple Z m n) (pair i0 j0) (k + 4) r.numbers a b d (omega arith) (omega arith) (omega arith) r.first r.second r.third) ∙ sym e ∙ p
 
-  pub block_refused : {x : Refusal} → j ≡ Refused x → rows_from block_entries (room_of Z) (triple Z m n) s from ≡ refused x
+  pub block_refused : {x : Refusal} → j ≡ Err x → rows_from block_entries (room_of Z) (triple Z m n) s from ≡ refused x
   block_refused {x} p = scanning_refused q h u r.numbers next r.reads (judged p)
 
-  pub block_more : j ≡ Admitted → Scanning block_entries (room_of Z) (triple Z m n) s from next (k + 1) (pair a (b + 1))
+  pub block_more : j ≡ Ok tt → Scanning block_entries (room_of Z) (triple Z m n) s from next (k + 1) (pair a (b + 1))
   block_more p =
       subst (Scanning block_entries (room_of Z) (triple Z m n) s from next (k + 1))
       (after_capped (triple Z m n) (pair i0 j0) (k + 4) r.numbers a b (omega arith) (omega arith) r.first r.second (judged p))
@@ -42,10 +42,10 @@ module _ {s : List ℕ} {i : ℕ} (f : FixedRead (fixed block_layout.heading s) 
   size_judged_lem : {x : Judged} → j ≡ x → size_judged r.numbers ≡ x
   size_judged_lem {x} p = sym (capped_size r.numbers a b d r.first r.second r.third) ∙ sym e ∙ p
 
-  pub size_refused : {x : Refusal} → j ≡ Refused x → block_lines s ≡ refused x
+  pub size_refused : {x : Refusal} → j ≡ Err x → block_lines s ≡ refused x
   size_refused {x} p = bad_counts block_layout s f.reads r.reads (size_judged_lem p)
 
-  module _ (p : j ≡ Admitted) where
+  module _ (p : j ≡ Ok tt) where
     pub size_exact : Exact r.numbers a b d
     size_exact = exact r.numbers a b d r.first r.second r.third (size_judged_lem p)
 

@@ -11,9 +11,8 @@ ghost use Rattle.texts.specs.Triples.{triple};
 ghost use Rattle.block_sheets.specs.Text.Reading.{size_judged, block_judged, block_entries, room_of, block_lines};
 ghost use Rattle.block_sheets.specs.Text.Scanning.{ScannedAs};
 
-use block_sheets::{Counts, Scanned};
-use refusals::{Judged, Refusal};
-use texts::{Mark, Three};
+use block_sheets::Counts;
+use refusals::Refusal;
 
 // Whether n and m are within limits.
 fn counts_fit(n: usize, m: usize) -> bool
@@ -24,17 +23,17 @@ fn counts_fit(n: usize, m: usize) -> bool
 }
 
 // 17 and 2: size and counts of line 2.
-pub fn judge_size(size: usize, rows: usize, columns: usize) -> Judged
+pub fn judge_size(size: usize, rows: usize, columns: usize) -> Result<(), Refusal>
     requires { (size ≤ cap) × (rows ≤ cap) × (columns ≤ cap) }
     ensures { result ≡ size_judged (triple size rows columns) }
 {
     if size == 0 {
-        return Judged::Refused(Refusal::Shift(2));
+        return Err(Refusal::Shift(2));
     }
     if !counts_fit(columns * size, rows * size) {
-        return Judged::Refused(Refusal::Count(2));
+        return Err(Refusal::Count(2));
     }
-    Judged::Admitted
+    Ok(())
 }
 
 // 3, 17 and 4: the entry i j k in line l, which may stand at the place i0 j0 or after it.
@@ -48,23 +47,29 @@ pub fn judge_block(
     i: usize,
     j: usize,
     k: usize,
-) -> Judged
+) -> Result<(), Refusal>
     ensures { result ≡ block_judged (triple size rows columns) l (pair i0 j0) (triple i j k) }
 {
     if !sheet_text::in_range(columns, rows, i, j) {
-        return Judged::Refused(Refusal::Range(l));
+        return Err(Refusal::Range(l));
     }
     if size <= k {
-        return Judged::Refused(Refusal::Shift(l));
+        return Err(Refusal::Shift(l));
     }
     if !sheet_text::not_before(i0, j0, i, j) {
-        return Judged::Refused(Refusal::Order(l));
+        return Err(Refusal::Order(l));
     }
-    Judged::Admitted
+    Ok(())
 }
 
 // The entries' lines, from a place on.
-fn scan_blocks(text: &[u8], from: usize, size: usize, rows: usize, columns: usize) -> Scanned
+fn scan_blocks(
+    text: &[u8],
+    from: usize,
+    size: usize,
+    rows: usize,
+    columns: usize,
+) -> Result<(Counts, usize), Refusal>
     requires { (from ≤ length text.now) × (0 < size) × (size ≤ limits.variables) × (rows ≤ limits.checks) × (columns ≤ limits.variables) }
     ensures { ScannedAs text.now (rows_from block_entries (room_of size) (triple size rows columns) text.now from) result }
 {
@@ -75,25 +80,16 @@ fn scan_blocks(text: &[u8], from: usize, size: usize, rows: usize, columns: usiz
     let mut j0: usize = 0;
     while at < text.len() {
         if room <= n {
-            return Scanned::Refused(Refusal::Count(n + 4));
+            return Err(Refusal::Count(n + 4));
         }
-        let line = lines::three_at(text, at);
-        let Three::Numbers {
-            first: i,
-            second: j,
-            third: k,
-            next,
-        } = line
-        else {
-            return Scanned::Refused(Refusal::Form(n + 4));
+        let Some(line) = lines::three_at(text, at) else {
+            return Err(Refusal::Form(n + 4));
         };
-        let judged = judge_block(size, rows, columns, n + 4, i0, j0, i, j, k);
-        if let Judged::Refused(r) = judged {
-            return Scanned::Refused(r);
-        }
+        let (i, j, k) = line.value;
+        judge_block(size, rows, columns, n + 4, i0, j0, i, j, k)?;
         i0 = i;
         j0 = j + 1;
-        at = next;
+        at = line.next;
         n += 1;
     }
     let counts = Counts {
@@ -102,34 +98,23 @@ fn scan_blocks(text: &[u8], from: usize, size: usize, rows: usize, columns: usiz
         columns,
         entries: n,
     };
-    Scanned::Lines(counts, from)
+    Ok((counts, from))
 }
 
 // All lines.
-pub fn scan(text: &[u8]) -> Scanned
+pub fn scan(text: &[u8]) -> Result<(Counts, usize), Refusal>
     ensures { ScannedAs text.now (block_lines text.now) result }
 {
-    let first = lines::fixed_at(b"size rows columns\n", text, 0);
-    let Mark::After(i) = first else {
-        return Scanned::Refused(Refusal::Form(1));
+    let Some(second) = lines::fixed_at(b"size rows columns\n", text, 0) else {
+        return Err(Refusal::Form(1));
     };
-    let second = lines::three_at(text, i);
-    let Three::Numbers {
-        first: size,
-        second: rows,
-        third: columns,
-        next,
-    } = second
-    else {
-        return Scanned::Refused(Refusal::Form(2));
+    let Some(line) = lines::three_at(text, second) else {
+        return Err(Refusal::Form(2));
     };
-    let judged = judge_size(size, rows, columns);
-    if let Judged::Refused(r) = judged {
-        return Scanned::Refused(r);
-    }
-    let third = lines::fixed_at(b"row column shift\n", text, next);
-    let Mark::After(at) = third else {
-        return Scanned::Refused(Refusal::Form(3));
+    let (size, rows, columns) = line.value;
+    judge_size(size, rows, columns)?;
+    let Some(at) = lines::fixed_at(b"row column shift\n", text, line.next) else {
+        return Err(Refusal::Form(3));
     };
     scan_blocks(text, at, size, rows, columns)
 }

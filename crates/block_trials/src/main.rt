@@ -3,10 +3,13 @@
 // numbers. A refusal stands in place of either.
 #![tactic(auto)]
 
-use code_sheets::{Counts, Sheet, Written};
+ghost use Rattle.std.specs.Prelude.{◌≤◌, length, IfSome};
+
+use block_sheets::Blocks;
+use code_sheets::Counts;
 use refusals::Refusal;
 use std::io::Write;
-use texts::{Mark, Number, Three};
+use words::Graph;
 
 // The bytes of standard input that are read.
 const INPUT: usize = 65_536;
@@ -20,10 +23,10 @@ fn refuse<W: Write>(writer: &mut W, r: Refusal) {
     files::write_whole(writer, &out[..length]);
 }
 
-fn written<W: Write>(writer: &mut W, w: Written, text: &[u8]) {
+fn written<W: Write>(writer: &mut W, w: Result<usize, Refusal>, text: &[u8]) {
     match w {
-        Written::Refused(r) => refuse(writer, r),
-        Written::Length(length) => {
+        Err(r) => refuse(writer, r),
+        Ok(length) => {
             if length <= text.len() {
                 files::write_whole(writer, &text[..length]);
             }
@@ -42,14 +45,13 @@ fn write_graph<W: Write>(
     let mut text = [0u8; 40000];
     if counts.checks < starts.len() / 4 {
         if counts.entries <= columns.len() / 4 {
-            let w = sheet_writer::write(
-                counts.variables,
-                &starts[..4 * counts.checks + 4],
-                &columns[..4 * counts.entries],
-                degrees,
-                &mut text,
-            );
-            written(writer, w, &text);
+            let graph = Graph {
+                variables: counts.variables,
+                starts: &starts[..4 * counts.checks + 4],
+                columns: &columns[..4 * counts.entries],
+            };
+            let answer = sheet_writer::write(graph, degrees, &mut text);
+            written(writer, answer, &text);
         }
     }
 }
@@ -58,47 +60,36 @@ fn read<W: Write>(writer: &mut W, text: &[u8]) {
     let mut degrees = [0u8; 8000];
     let mut starts = [0u8; 8000];
     let mut columns = [0u8; 16000];
-    let s = block_sheet::read(text, &mut degrees, &mut starts, &mut columns);
-    match s {
-        Sheet::Refused(r) => refuse(writer, r),
-        Sheet::Read(counts) => write_graph(writer, counts, &mut degrees, &starts, &columns),
+    match block_sheet::read(text, &mut degrees, &mut starts, &mut columns) {
+        Err(refusal) => refuse(writer, refusal),
+        Ok(counts) => write_graph(writer, counts, &mut degrees, &starts, &columns),
     }
 }
 
 fn small(a: usize, b: usize, c: usize) -> bool {
-    (a < CAP) & ((b < CAP) & (c < CAP))
+    a < CAP && b < CAP && c < CAP
 }
 
-// The entries' lines from a place on, in the writer's list: how many bytes of it. One more than it has where a line is of another form, has
-// a number that is too large or has no room.
-fn entries(text: &[u8], from: usize, list: &mut [u8]) -> usize {
-    let none = list.len() + 1;
+// The entries' lines from a place on, in the writer's list: how many bytes of it, where all lines have form, no number is too large and there is
+// room for them.
+fn entries(text: &[u8], from: usize, list: &mut [u8]) -> Option<usize>
+    ensures { IfSome result (λ n. n ≤ length list.new) }
+{
     let mut at = from;
     let mut k: usize = 0;
     while at < text.len() {
-        let line = lines::three_at(text, at);
-        let Three::Numbers {
-            first,
-            second,
-            third,
-            next,
-        } = line
-        else {
-            return none;
-        };
-        if !small(first, second, third) {
-            return none;
+        let line = lines::three_at(text, at)?;
+        let (row, column, shift) = line.value;
+        if !small(row, column, shift) || list.len() / 12 <= k {
+            return None;
         }
-        if list.len() / 12 <= k {
-            return none;
-        }
-        words::put_column(list, 3 * k, first);
-        words::put_column(list, 3 * k + 1, second);
-        words::put_column(list, 3 * k + 2, third);
-        at = next;
+        words::put_column(list, 3 * k, row);
+        words::put_column(list, 3 * k + 1, column);
+        words::put_column(list, 3 * k + 2, shift);
+        at = line.next;
         k += 1;
     }
-    12 * k
+    Some(12 * k)
 }
 
 // An entry has 12 bytes in the list and at least 6 in the text, so there is room for all.
@@ -111,54 +102,49 @@ fn write_entries<W: Write>(
     columns: usize,
 ) {
     let mut list = [0u8; 2 * INPUT];
-    let length = entries(text, from, &mut list);
-    if length <= list.len() {
+    if let Some(length) = entries(text, from, &mut list) {
+        let blocks = Blocks {
+            size,
+            rows,
+            columns,
+            entries: &list[..length],
+        };
         let mut degrees = [0u8; 8000];
         let mut out = [0u8; 40000];
-        let w = block_writer::write(size, rows, columns, &list[..length], &mut degrees, &mut out);
-        written(writer, w, &out);
+        let answer = block_writer::write(blocks, &mut degrees, &mut out);
+        written(writer, answer, &out);
     }
 }
 
 fn write<W: Write>(writer: &mut W, text: &[u8]) {
-    let first = lines::fixed_at(b"size rows columns\n", text, 0);
-    let Mark::After(i) = first else {
+    let Some(second) = lines::fixed_at(b"size rows columns\n", text, 0) else {
         return;
     };
-    let second = lines::three_at(text, i);
-    let Three::Numbers {
-        first: size,
-        second: rows,
-        third: columns,
-        next,
-    } = second
-    else {
+    let Some(counts) = lines::three_at(text, second) else {
         return;
     };
-    let third = lines::fixed_at(b"row column shift\n", text, next);
-    let Mark::After(at) = third else {
+    let Some(at) = lines::fixed_at(b"row column shift\n", text, counts.next) else {
         return;
     };
-    if !small(size, rows, columns) {
-        return;
+    let (size, rows, columns) = counts.value;
+    if small(size, rows, columns) {
+        write_entries(writer, text, at, size, rows, columns);
     }
-    write_entries(writer, text, at, size, rows, columns);
 }
 
 // The trials of a text, up to a line that is none or a length past the end.
 fn trials<W: Write>(writer: &mut W, text: &[u8]) {
     let mut at = 0;
     while at < text.len() {
-        let line = lines::field_at(text, at, b'\n');
-        let Number::Value { value, next } = line else {
+        let Some(length) = lines::field_at(text, at, b'\n') else {
             return;
         };
-        let end = next + value;
+        let end = length.next + length.value;
         if text.len() < end {
             return;
         }
-        read(writer, &text[next..end]);
-        write(writer, &text[next..end]);
+        read(writer, &text[length.next..end]);
+        write(writer, &text[length.next..end]);
         at = end;
     }
 }

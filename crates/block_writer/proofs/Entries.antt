@@ -1,4 +1,5 @@
 -- The list of entries, judged and counted one entry on.
+use Rattle.std.specs.Prelude.{Ok, Err}
 use mathlib.Core.Path.{◌≡◌, sym, ap, ◌∙◌, subst}
 use mathlib.Core.List.{List}
 use Prim.Native.Nat.{ℕ, ◌+◌, ◌*◌, ◌/◌, ◌^◌, ◌≤◌, ◌<◌, min}
@@ -9,8 +10,7 @@ use lib.ListN.{length}
 use Rattle.rules.specs.Graphs.{limits}
 use Rattle.refusals.specs.declared.Refusal.{Refusal}
 use Rattle.refusals.specs.declared.Refusal.TheVariants.{Count}
-use Rattle.refusals.specs.declared.Judged.{Judged}
-use Rattle.refusals.specs.declared.Judged.TheVariants.{Admitted, Refused}
+use Rattle.refusals.specs.Refusals.{Judged}
 use Rattle.words.specs.Words.{stored}
 use Rattle.words.specs.Roles.{degree_at}
 use Rattle.texts.specs.Lines.{pair}
@@ -45,21 +45,21 @@ entry_line_lem e = ap triple_text (entry_is e)
 -- ---- judged, under size and counts c
 
 module _ {c : Triple} (list : List ℕ) {q i0 j0 : ℕ} (w : Walking block_entries (room_of c.first) c (entries_in list) q (pair i0 j0)) where
-  pub judged_all : q ≡ length list / 12 → Admitted ≡ lines_judged (entries_given c (entries_in list))
+  pub judged_all : q ≡ length list / 12 → (Ok tt) ≡ lines_judged (entries_given c (entries_in list))
   judged_all e = sym (ap lines_judged (walking_end w (omega (arith, many list))))
 
   module _ (l : q < length list / 12) where
-    pub judged_many : room_of c.first ≤ q → Refused (Count (q + 4)) ≡ lines_judged (entries_given c (entries_in list))
+    pub judged_many : room_of c.first ≤ q → Err (Count (q + 4)) ≡ lines_judged (entries_given c (entries_in list))
     judged_many u = sym (ap lines_judged (walking_many w (entries_from list q l) u))
 
     module _ {i j k : ℕ} (u : q < room_of c.first) (n : Entry list q i j k) {x : Judged} (e : x ≡ block_judged c (q + 4) (pair i0 j0) (triple i j k)) where
       found : block_judged c (q + 4) (pair i0 j0) (entry_in list q) ≡ x
       found = sym (e ∙ ap (block_judged c (q + 4) (pair i0 j0)) (entry_is n))
 
-      pub judged_refused : {r : Refusal} → x ≡ Refused r → Refused r ≡ lines_judged (entries_given c (entries_in list))
+      pub judged_refused : {r : Refusal} → x ≡ Err r → Err r ≡ lines_judged (entries_given c (entries_in list))
       judged_refused p = sym (ap lines_judged (walking_refused w (entries_from list q l) u (found ∙ p)))
 
-      pub judged_more : x ≡ Admitted → Walking block_entries (room_of c.first) c (entries_in list) (q + 1) (pair i (j + 1))
+      pub judged_more : x ≡ Ok tt → Walking block_entries (room_of c.first) c (entries_in list) (q + 1) (pair i (j + 1))
       judged_more p =
           subst (Walking block_entries (room_of c.first) c (entries_in list) (q + 1)) (ap block_entries.after (sym (entry_is n)) ∙ ap (pair i) (sym (add-one j)))
           (walking_more w (entries_from list q l) u (found ∙ p))
@@ -71,10 +71,10 @@ module _ (c : Triple) (ps : List Triple) {a b d : ℕ} (ea : a ≡ min c.first c
   size_found : size_judged c ≡ x
   size_found = sym (e ∙ capped_size c a b d ea eb ed)
 
-  pub size_refused : {r : Refusal} → x ≡ Refused r → Refused r ≡ lines_judged (given block_layout c ps)
+  pub size_refused : {r : Refusal} → x ≡ Err r → Err r ≡ lines_judged (given block_layout c ps)
   size_refused p = sym (ap (λ (y : Judged). lines_judged (below y (entries_given c ps))) (size_found ∙ p))
 
-  module _ (p : x ≡ Admitted) where
+  module _ (p : x ≡ Ok tt) where
     pub size_some : 0 < c.first
     size_some = (judged_within c (size_found ∙ p)).0
 

@@ -7,7 +7,7 @@ ghost use Rattle.settings.specs.Scaling.{positive, factor_of, scaling_admitted};
 ghost use Rattle.settings.specs.Settings.{precisions_admitted, options_admitted, lifting_admitted, settings_of};
 
 use refusals::Refusal;
-use settings::{Checked, Parameters, Scaling, Settings};
+use settings::{Parameters, Scaling, Settings};
 
 // The L of a run in which nothing is lifted, and the largest W.
 pub const NEVER: u32 = 256;
@@ -18,7 +18,7 @@ pub const LARGEST_LIFT: u32 = 15;
 fn is_positive(x: f32) -> bool
     ensures { result ≡ positive x }
 {
-    (0.0 < x) & (x < 1.0 / 0.0)
+    x.is_finite() & (0.0 < x)
 }
 
 // The factor of a scaling.
@@ -45,13 +45,7 @@ fn scaling_admitted(s: Scaling) -> bool
 fn precisions_admitted(channel: u32, message: u32) -> bool
     ensures { result ≡ precisions_admitted channel message }
 {
-    if channel == 3 {
-        return (message == 3) | (message == 2);
-    }
-    if channel == 4 {
-        return (message == 4) | (message == 3);
-    }
-    false
+    matches!((channel, message), (3, 2 | 3) | (4, 3 | 4))
 }
 
 // Whether the offsets and the limit are within theirs.
@@ -66,13 +60,11 @@ pub fn largest(bits: u8) -> u8
     requires { (2 ≤ bits) × (bits ≤ 4) }
     ensures { result ≡ largest bits }
 {
-    if bits == 2 {
-        return 1;
+    match bits {
+        2 => 1,
+        3 => 3,
+        _ => 7,
     }
-    if bits == 3 {
-        return 3;
-    }
-    7
 }
 
 // Whether L and W are within their bounds.
@@ -85,27 +77,28 @@ fn lifting_admitted(p: Parameters) -> bool
 }
 
 // The settings, or why they are turned down.
-pub fn check_settings(p: Parameters) -> Checked
+#[tactic(auto, using(settings::proofs::Factors::factor_positive), unfolding(settings::specs::Settings::settings_of))]
+pub fn check_settings(p: Parameters) -> Result<Settings, Refusal>
     ensures { result ≡ settings_of p }
 {
     if !precisions_admitted(p.channel, p.message) {
-        return Checked::Refused(Refusal::Precision);
+        return Err(Refusal::Precision);
     }
     if !options_admitted(p) {
-        return Checked::Refused(Refusal::Option);
+        return Err(Refusal::Option);
     }
     if !lifting_admitted(p) {
-        return Checked::Refused(Refusal::Lifting);
+        return Err(Refusal::Lifting);
     }
     let scaling = p.scaling;
     if !scaling_admitted(scaling) {
-        return Checked::Refused(Refusal::Scaling);
+        return Err(Refusal::Scaling);
     }
     let f = factor(scaling);
     if !is_positive(f) {
-        return Checked::Refused(Refusal::Factor);
+        return Err(Refusal::Factor);
     }
-    Checked::Good(Settings {
+    Ok(Settings {
         factor: f,
         channel: p.channel as u8,
         message: p.message as u8,

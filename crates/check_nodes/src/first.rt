@@ -24,10 +24,8 @@ pub fn first_messages(columns: &[u8], levels: &[u8], most: u8, outgoing: &mut [u
     requires by_index { (e : ℕ) → e < length outgoing.old → column_at columns.now e < length levels.now }
     ensures { outgoing.new ≡ tabulate (λ e. byte (first_message (on_columns columns.now) most (level_in levels.now) e)) (length outgoing.old) }
 {
-    let mut e = 0;
-    while e < outgoing.len() {
+    for e in 0..outgoing.len() {
         outgoing[e] = clipped(levels[words::column(columns, e)], most);
-        e += 1;
     }
 }
 
@@ -36,20 +34,7 @@ pub fn first_bits(levels: &[u8], bits: &mut [u8])
     requires { length bits.old ≡ length levels.now }
     ensures { bits.new ≡ tabulate (λ v. one (first_bit (level_in levels.now) v)) (length levels.now) }
 {
-    let mut v = 0;
-    while v < levels.len() {
-        bits[v] = levels[v] / 128;
-        v += 1;
-    }
-}
-
-// Makes every byte 0.
-pub fn clear(b: &mut [u8])
-    ensures { b.new ≡ tabulate (λ k. 0) (length b.old) }
-{
-    let mut k = 0;
-    while k < b.len() {
-        b[k] = 0;
-        k += 1;
+    for (v, &b) in levels.iter().enumerate() {
+        bits[v] = b / 128;
     }
 }

@@ -20,27 +20,15 @@ pub struct Least {
     pub second: u32,
 }
 
-fn lower(a: u32, b: u32) -> u32
-    ensures { result ≡ min a b }
-{
-    if a < b { a } else { b }
-}
-
-fn higher(a: u32, b: u32) -> u32
-    ensures { result ≡ max a b }
-{
-    if b < a { a } else { b }
-}
-
 // The same with the level b more.
 fn absorb(s: Least, b: u8) -> Least
     ensures { (result.minus ≡ xor s.minus (leb 128 b)) × (result.least ≡ min s.least (b % 128)) × (result.second ≡ min s.second (max s.least (b % 128))) }
 {
     let m = (b % 128) as u32;
     Least {
-        minus: s.minus != (128 <= b),
-        least: lower(s.least, m),
-        second: lower(s.second, higher(s.least, m)),
+        minus: s.minus ^ (128 <= b),
+        least: s.least.min(m),
+        second: s.second.min(s.least.max(m)),
     }
 }
 
@@ -53,10 +41,8 @@ fn summarize(incoming: &[u8]) -> Least
         least: 127,
         second: 127,
     };
-    let mut k = 0;
-    while k < incoming.len() {
-        s = absorb(s, incoming[k]);
-        k += 1;
+    for &b in incoming {
+        s = absorb(s, b);
     }
     s
 }
@@ -97,10 +83,8 @@ fn check_row(incoming: &[u8], outgoing: &mut [u8])
     ensures { outgoing.new ≡ tabulate (λ j. byte (row_message (level_in incoming.now) (length incoming.now) j)) (length incoming.now) }
 {
     let s = summarize(incoming);
-    let mut j = 0;
-    while j < outgoing.len() {
-        outgoing[j] = answer(s, incoming[j]);
-        j += 1;
+    for (j, &b) in incoming.iter().enumerate() {
+        outgoing[j] = answer(s, b);
     }
 }
 
@@ -110,11 +94,9 @@ pub fn check_nodes(starts: &[u8], incoming: &[u8], outgoing: &mut [u8])
     ensures { outgoing.new ≡ tabulate (λ e. byte (from_check (on_starts starts.now) (level_in incoming.now) e)) (length incoming.now) }
 {
     let m = starts.len() / words::WIDE - 1;
-    let mut i = 0;
-    while i < m {
+    for i in 0..m {
         let a = words::start(starts, i);
         let b = words::start(starts, i + 1);
         check_row(&incoming[a..b], &mut outgoing[a..b]);
-        i += 1;
     }
 }

@@ -1,17 +1,15 @@
 -- The encoder's limits: a graph within them is judged as under the wider ones, and any other is refused with 2.
+use Rattle.std.specs.Prelude.{Ok, Err}
 use mathlib.Core.Path.{◌≡◌, refl, sym, ap, ◌∙◌}
 use mathlib.Core.Bool.{Bool, true, false, ◌&&◌, true≢false}
 use mathlib.Core.List.{List}
-use Prim.Native.Nat.{ℕ, ◌-◌, ◌/◌, ◌<◌}
-use native.Mathlib.Decide.{dec_lt}
+use Prim.Native.Nat.{ℕ, ◌/◌}
 use native.Mathlib.Omega.{arith}
-use borrow.Author.Tests.{leb-true, le-leb, lt-leb}
+use borrow.Author.Tests.{leb-true, le-leb}
 use lib.Dec.{eqb, leb}
 use lib.ListN.{length}
 use Rattle.rules.specs.Graphs.{Graph, Wider, limits, AdmittedWithin}
-use Rattle.refusals.specs.Refusals.{unless, or_else}
-use Rattle.refusals.specs.declared.Judged.{Judged}
-use Rattle.refusals.specs.declared.Judged.TheVariants.{Admitted, Refused}
+use Rattle.refusals.specs.Refusals.{unless, or_else, Judged}
 use Rattle.refusals.specs.declared.Refusal.TheVariants.{Count, Positions}
 use Rattle.rules.proofs.Tests.{and_left, and_right}
 use Rattle.graphs.specs.Judging.{counts_judged, shape_judged, countable, graph_judged_in}
@@ -37,32 +35,24 @@ admitted_wider a = record {
   variable_degrees = a.variable_degrees;
 }
 
--- one check fewer than starts
-pub fewer : (s : ℕ) → leb s 513 ≡ leb (s - 1) 512
-fewer s = go (dec_lt 513 s)
-  where
-    go : Dec (513 < s) → leb s 513 ≡ leb (s - 1) 512
-    go (yes l) = lt-leb s 513 l ∙ sym (lt-leb (s - 1) 512 (omega arith))
-    go (no l) = le-leb s 513 (omega arith) ∙ sym (le-leb (s - 1) 512 (omega arith))
-
 module _ (G : Graph) where
   -- not too many variables and checks
   abbrev pub small : Bool
   small = leb G.variables encoder_limits.variables && leb G.checks encoder_limits.checks
 
   module _ (large : small ≡ false) where
-    counts_large : counts_judged encoder_limits G ≡ Refused (Count 0)
+    counts_large : counts_judged encoder_limits G ≡ Err (Count 0)
     unfolding counts_judged
     counts_large = go (leb 2 G.variables) (leb G.variables 2048) (leb 1 G.checks) (leb G.checks 512) (leb G.entries limits.entries) large
       where
-        go : (a b c d e : Bool) → b && d ≡ false → or_else (unless (a && b) (Count 0)) (or_else (unless (c && d) (Count 0)) (unless e (Count 0))) ≡ Refused (Count 0)
+        go : (a b c d e : Bool) → b && d ≡ false → or_else (unless (a && b) (Count 0)) (or_else (unless (c && d) (Count 0)) (unless e (Count 0))) ≡ Err (Count 0)
         go false b c d e h = refl
         go true false c d e h = refl
         go true true false d e h = refl
         go true true true false e h = refl
         go true true true true e h = absurd (true≢false h)
 
-    pub judges_large : (positions given d : List ℕ) → JudgesInput G positions given (Refused (Count 0)) d d
+    pub judges_large : (positions given d : List ℕ) → JudgesInput G positions given (Err (Count 0)) d d
     unfolding shape_judged countable graph_judged_in input_judged
     judges_large positions given d = record { answer = sym (rw counts_large); degrees = sym (rw counts_large) }
 
@@ -93,8 +83,8 @@ module _ (G : Graph) where
 -- ---- what is refused of the given bits
 
 or_else_assoc : (a b c : Judged) → or_else a (or_else b c) ≡ or_else (or_else a b) c
-or_else_assoc Admitted b c = refl
-or_else_assoc (Refused r) b c = refl
+or_else_assoc (Ok _) b c = refl
+or_else_assoc (Err r) b c = refl
 
 -- all of 18 comes before 15
 pub positions_first : (n : ℕ) (positions given : List ℕ)

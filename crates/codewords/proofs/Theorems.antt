@@ -1,4 +1,5 @@
 -- What follows from the promise of the call.
+use Rattle.std.specs.Prelude.{Ok, Err}
 use mathlib.Core.Path.{◌≡◌, refl, sym, ap, ◌∙◌}
 use mathlib.Core.Bool.{Bool, true, false, xor}
 use mathlib.Core.List.{List}
@@ -10,8 +11,7 @@ use lib.ListN.{length, get_or, take, drop}
 use lib.Seq.{take_at}
 use Rattle.rules.specs.Graphs.{Graph, limits, AdmittedWithin, check_degree, odd_check, Codeword}
 use Rattle.rules.specs.Ranges.{one, tabulate}
-use Rattle.refusals.specs.declared.Judged.{Judged}
-use Rattle.refusals.specs.declared.Judged.TheVariants.{Admitted, Refused}
+use Rattle.refusals.specs.Refusals.{Judged}
 use Rattle.refusals.specs.declared.Refusal.TheVariants.{Bit, NoCodeword}
 use Rattle.refusals.proofs.Judging.{refused_not, or_else_left, true_all}
 use Rattle.rules.proofs.Tests.{and_both}
@@ -21,7 +21,6 @@ use Rattle.rules.proofs.Stops.{codeword_none}
 use Rattle.words.specs.Roles.{bit_of_byte}
 use Rattle.graphs.specs.Judging.{graph_judged_in}
 use Rattle.graphs.specs.Calls.{bytes_judged, bits_judged}
-use Rattle.graphs.specs.declared.OddChecks.TheVariants.{Odd}
 use Rattle.graphs.proofs.Lending.{lent_admitted}
 use Rattle.codewords.specs.Choosing.{Given, Fitting}
 use Rattle.codewords.specs.Encoding.{encoder_limits, given_of, given_judged, input_judged, room_judged, encode_judged, Found, Answers}
@@ -51,13 +50,13 @@ one_answer G g c c' d d' f h =
 pub none_exactly : NoneExactly
 none_exactly G positions given r d d' c c' w w' e h = (told r (e.accepted h).0, tells r (e.accepted h).0)
   where
-    told : (r : Judged) → Answers r G (given_of positions given) c c' → r ≡ Refused NoCodeword → (x : ℕ → Bool) → Fitting G (given_of positions given) x → ⊥
-    told Admitted a q = absurd (refused_not (sym q))
-    told (Refused q) a _ = a.1.none
+    told : (r : Judged) → Answers r G (given_of positions given) c c' → r ≡ Err NoCodeword → (x : ℕ → Bool) → Fitting G (given_of positions given) x → ⊥
+    told (Ok _) a q = absurd (refused_not (sym q))
+    told (Err q) a _ = a.1.none
 
-    tells : (r : Judged) → Answers r G (given_of positions given) c c' → ((x : ℕ → Bool) → Fitting G (given_of positions given) x → ⊥) → r ≡ Refused NoCodeword
-    tells Admitted a none = absurd (none a.codeword a.least.member)
-    tells (Refused q) a none = ap Refused a.0
+    tells : (r : Judged) → Answers r G (given_of positions given) c c' → ((x : ℕ → Bool) → Fitting G (given_of positions given) x → ⊥) → r ≡ Err NoCodeword
+    tells (Ok _) a none = absurd (none a.codeword a.least.member)
+    tells (Err q) a none = ap Err a.0
 
 -- ---- counting the odd checks of what was found
 
@@ -82,7 +81,7 @@ module _ (x : ℕ → Bool) (n : ℕ) where
       back true = refl
       back false = refl
 
-  bytes_admitted : bytes_judged (bytes x n) ≡ Admitted
+  bytes_admitted : bytes_judged (bytes x n) ≡ Ok tt
   unfolding bytes bytes_judged
   bytes_admitted =
       true_all (λ v. leb (get_or (bytes x n) v 0) 1) Bit (length (bytes x n))
@@ -96,7 +95,7 @@ module _ (x : ℕ → Bool) (n : ℕ) where
           go false e = omega (arith, e)
 
 -- the graph is refused by none
-graph_judged_lem : (G : Graph) (positions given : List ℕ) (d c w : ℕ) → encode_judged G positions given d c w ≡ Admitted → graph_judged_in encoder_limits G d ≡ Admitted
+graph_judged_lem : (G : Graph) (positions given : List ℕ) (d c w : ℕ) → encode_judged G positions given d c w ≡ Ok tt → graph_judged_in encoder_limits G d ≡ Ok tt
 unfolding encode_judged input_judged
 graph_judged_lem G positions given d c w h =
     or_else_left (graph_judged_in encoder_limits G d) (given_judged G.variables positions given)
@@ -104,17 +103,17 @@ graph_judged_lem G positions given d c w h =
 
 pub none_odd : NoneOdd
 unfolding bits_judged
-none_odd G positions given d d' c c' w w' e = rw (front f, graph, long, bytes_admitted x n) (ap Odd (codeword_none G (bit_of_byte (bytes x n)) good))
+none_odd G positions given d d' c c' w w' e = rw (front f, graph, long, bytes_admitted x n) (ap Ok (codeword_none G (bit_of_byte (bytes x n)) good))
   where
     n : ℕ
     n = G.variables
 
-    found : encode_judged G positions given (length d) (length c) (length w) ≡ Admitted
+    found : encode_judged G positions given (length d) (length c) (length w) ≡ Ok tt
     found = go (encode_judged G positions given (length d) (length c) (length w)) refl
       where
-        go : (j : Judged) → encode_judged G positions given (length d) (length c) (length w) ≡ j → j ≡ Admitted
-        go Admitted h = refl
-        go (Refused q) h = sym (e.refused q h).0
+        go : (j : Judged) → encode_judged G positions given (length d) (length c) (length w) ≡ j → j ≡ Ok tt
+        go (Ok _) h = refl
+        go (Err q) h = sym (e.refused q h).0
 
     f : Found G (given_of positions given) c c'
     f = (e.accepted found).0
@@ -122,13 +121,13 @@ none_odd G positions given d d' c c' w w' e = rw (front f, graph, long, bytes_ad
     x : ℕ → Bool
     x = f.codeword
 
-    judged : graph_judged_in encoder_limits G (length d) ≡ Admitted
+    judged : graph_judged_in encoder_limits G (length d) ≡ Ok tt
     judged = graph_judged_lem G positions given (length d) (length c) (length w) found
 
     ok : AdmittedWithin encoder_limits G
     ok = lent_admitted G (length d) judged
 
-    graph : graph_judged_in limits G (length d) ≡ Admitted
+    graph : graph_judged_in limits G (length d) ≡ Ok tt
     graph = sym (graph_alike G (and_both (le-leb n 2048 ok.variables.1) (le-leb G.checks 512 ok.checks.1)) (length d)) ∙ judged
 
     long : eqb (length (bytes x n)) n ≡ true

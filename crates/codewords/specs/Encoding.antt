@@ -1,10 +1,8 @@
 -- Document 02, item 3: the whole call, what it refuses, what it answers, and every lent byte afterwards.
-use Rattle.std.specs.Prelude.{◌≡◌, Bool, ◌&&◌, ◌||◌, List, ◌++◌, ℕ, ◌+◌, ◌-◌, ◌*◌, ◌/◌, eqb, leb, ltb, length, drop}
+use Rattle.std.specs.Prelude.{◌≡◌, Bool, ◌&&◌, ◌||◌, List, ◌++◌, ℕ, ◌+◌, ◌-◌, ◌*◌, ◌/◌, eqb, leb, ltb, length, drop, Ok, Err}
 use Rattle.rules.specs.Ranges.{one, tabulate}
 use Rattle.rules.specs.Graphs.{Graph, Limits, limits}
-use Rattle.refusals.specs.Refusals.{unless, or_else, each}
-use Rattle.refusals.specs.declared.Judged.{Judged}
-use Rattle.refusals.specs.declared.Judged.TheVariants.{Admitted, Refused}
+use Rattle.refusals.specs.Refusals.{unless, or_else, each, Judged}
 use Rattle.refusals.specs.declared.Refusal.{Refusal}
 use Rattle.refusals.specs.declared.Refusal.TheVariants.{Buffer, Positions, NoCodeword}
 use Rattle.words.specs.Roles.{position_at, bit_of_byte}
@@ -71,8 +69,8 @@ pub record NoneFits (G : Graph) (g : Given) (c c' : List ℕ) : Type 0 where
   pub kept : c' ≡ c
 
 abbrev pub Answers : Judged → Graph → Given → List ℕ → List ℕ → Type 0
-Answers Admitted G g c c' = Found G g c c'
-Answers (Refused q) G g c c' = (q ≡ NoCodeword) × NoneFits G g c c'
+Answers (Ok _) G g c c' = Found G g c c'
+Answers (Err q) G g c c' = (q ≡ NoCodeword) × NoneFits G g c c'
 
 -- 'The work bytes are all 0 after a codeword or .. after a 19': those that are asked for, and bytes past them do not change.
 abbrev pub worked_in : Graph → List ℕ → List ℕ
@@ -88,6 +86,6 @@ pub record JudgesInput (G : Graph) (positions given : List ℕ) (r : Judged) (d 
 -- The answer r, the list of degrees, the codeword and the work bytes, before and after.
 pub record Encodes (G : Graph) (positions given : List ℕ) (r : Judged) (d d' c c' w w' : List ℕ) : Type 0 where
   pub degrees : d' ≡ degrees_in (countable encoder_limits G (length d)) G d
-  pub refused : (q : Refusal) → encode_judged G positions given (length d) (length c) (length w) ≡ Refused q
-      → (r ≡ Refused q) × (c' ≡ c) × (w' ≡ w)
-  pub accepted : encode_judged G positions given (length d) (length c) (length w) ≡ Admitted → Answers r G (given_of positions given) c c' × (w' ≡ worked_in G w)
+  pub refused : (q : Refusal) → encode_judged G positions given (length d) (length c) (length w) ≡ Err q
+      → (r ≡ Err q) × (c' ≡ c) × (w' ≡ w)
+  pub accepted : encode_judged G positions given (length d) (length c) (length w) ≡ Ok tt → Answers r G (given_of positions given) c c' × (w' ≡ worked_in G w)

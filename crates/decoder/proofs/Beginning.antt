@@ -36,8 +36,8 @@ use Rattle.settings.proofs.Magnitudes.{magnitudes_within}
 use Rattle.nodes.specs.Memory.{level_in}
 use Rattle.steps.specs.Steps.{Holds, Degrees, Sized, Begins, rules_under, Given, Resumes}
 use Rattle.steps.proofs.Running.{bits_of, in_bytes}
-use Rattle.decoder.specs.Runs.{report_at, levels_under, RunsTo, RunsFrom}
-use Rattle.decoding.specs.Decoding.{Memory, filled}
+use Rattle.decoder.specs.Runs.{report_at, levels_under, RunsTo, RunsFrom, RunsInto}
+use Rattle.decoding.specs.Decoding.{Memory}
 use Rattle.decoding.specs.Frames.{memory}
 
 -- zeros, as numbers of four bytes
@@ -165,11 +165,7 @@ pub runs_same : (G : Graph) → Admitted G → (Nq : ℕ) (φ : Offsets) (Λ : L
     → (r ≡ report G (sign_preserving G Nq φ Λ y') limit) × Holds G (final G (sign_preserving G Nq φ Λ y') limit) q C S b
 runs_same G ok Nq φ Λ y y' h limit {r} {q} {C} {S} {b} e w = (e ∙ report_same G ok Nq φ Λ y y' h limit, subst (λ σ. Holds G σ q C S b) (final_same G ok Nq φ Λ y y' h limit) w)
 
--- the run in the front of memory that may be longer: M before, M' after
-pub record RunsInto (s : Settings) (G : Graph) (values : List ℕ) (r : Report) (M M' : Memory) : Type 0 where
-  pub report : r ≡ report G (rules_under s G (levels_under s values)) s.limit
-  pub memory : M' ≡ filled G.variables G.entries (levels_under s values) (final G (rules_under s G (levels_under s values)) s.limit) M
-
+-- the run in the front of memory that may be longer
 pub run_into : {s : Settings} {G : Graph} {values : List ℕ} {r : Report} {y q C S b : List ℕ} (M : Memory) → RunsFrom s G values r y q C S b
     → RunsInto s G values r M
     (memory (y ++ drop G.variables M.levels) (q ++ drop G.entries M.variable_messages) (C ++ drop G.entries M.check_messages) (S ++ drop (4 * G.variables) M.sums) (b ++ drop G.variables M.bits))

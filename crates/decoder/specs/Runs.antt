@@ -1,10 +1,9 @@
 -- What the parts of decode do, on memory of exactly the right lengths.
-use Rattle.std.specs.Prelude.{◌≡◌, cond, List, ℕ, ◌*◌, ◌/◌, eqb, length}
+use Rattle.std.specs.Prelude.{◌≡◌, cond, List, ℕ, ◌*◌, ◌/◌, ◌≤◌, eqb, length, Ok}
 use Rattle.rules.specs.Ranges.{tabulate}
 use Rattle.rules.specs.Levels.{Level, byte, largest}
 use Rattle.rules.specs.Graphs.{Graph, Admitted}
 use Rattle.rules.specs.Sequence.{Scheme, begun, stop, final, report}
-use Rattle.refusals.specs.declared.Judged.TheVariants as Judgement
 use Rattle.rules.specs.declared.Report.{Report}
 use Rattle.rules.specs.declared.Verdict.TheVariants.{Codeword, Stopped}
 use Rattle.settings.specs.declared.Settings.{Settings}
@@ -13,6 +12,7 @@ use Rattle.settings.specs.Theorems.{Admissible}
 use Rattle.nodes.specs.Memory.{level_in}
 use Rattle.steps.specs.Steps.{Holds, Sized, rules_under}
 use Rattle.decoding.specs.declared.Room.{Room}
+use Rattle.decoding.specs.Decoding.{Memory, filled}
 
 -- The report of a run that stops at iteration t with k odd checks.
 abbrev pub report_at : ℕ → ℕ → Report
@@ -23,12 +23,20 @@ abbrev pub exact : Graph → Room → Type 0
 exact G m =
     (m.levels ≡ G.variables) × (m.variable_messages ≡ G.entries) × (m.check_messages ≡ G.entries) × (m.sums ≡ 4 * G.variables) × (m.bits ≡ G.variables)
 
+-- Memory that is long enough.
+pub record Long (G : Graph) (M : Memory) : Type 0 where
+  pub levels : G.variables ≤ length M.levels
+  pub variable_messages : G.entries ≤ length M.variable_messages
+  pub check_messages : G.entries ≤ length M.check_messages
+  pub sums : 4 * G.variables ≤ length M.sums
+  pub bits : G.variables ≤ length M.bits
+
 -- Checked settings, on an admitted graph, with a finite value for each variable.
 pub record Ready (s : Settings) (G : Graph) (values : List ℕ) : Type 0 where
   pub settings : Admissible s
   pub admitted : Admitted G
   pub count : length values / 4 ≡ G.variables
-  pub finite : values_judged values ≡ Judgement.Admitted
+  pub finite : values_judged values ≡ Ok tt
 
 -- The channel levels of values under checked settings.
 abbrev pub levels_under : Settings → List ℕ → ℕ → Level
@@ -59,3 +67,8 @@ pub record RunsFrom (s : Settings) (G : Graph) (values : List ℕ) (r : Report) 
   pub levels : y ≡ tabulate (λ v. byte (levels_under s values v)) G.variables
   pub report : r ≡ report G (rules_under s G (levels_under s values)) s.limit
   pub holds : Holds G (final G (rules_under s G (levels_under s values)) s.limit) q C S b
+
+-- The same in the front of memory that may be longer: M before, M' after.
+pub record RunsInto (s : Settings) (G : Graph) (values : List ℕ) (r : Report) (M M' : Memory) : Type 0 where
+  pub report : r ≡ report G (rules_under s G (levels_under s values)) s.limit
+  pub memory : M' ≡ filled G.variables G.entries (levels_under s values) (final G (rules_under s G (levels_under s values)) s.limit) M

@@ -5,9 +5,8 @@ use Prim.Native.Nat.{ℕ, ◌/◌}
 use lib.Dec.{eqb}
 use Rattle.rules.specs.Levels.{largest}
 use Rattle.rules.specs.Graphs.{limits}
-use Rattle.refusals.specs.Refusals.{unless, or_else}
+use Rattle.refusals.specs.Refusals.{unless, or_else, Judged}
 use Rattle.rules.specs.Symmetry.{Symmetric}
-use Rattle.refusals.specs.declared.Judged.{Judged}
 use Rattle.refusals.specs.declared.Refusal.TheVariants.{Length, Blank}
 use Rattle.rules.proofs.Codewords.{symmetry}
 use Rattle.graphs.specs.Judging.{graph_judged}

@@ -1,26 +1,27 @@
 -- Document 01, 'Decode', and document 02, items 1, 4 and 9: what is refused, what is answered, and what the lent memory then holds.
-use Rattle.std.specs.Prelude.{◌≡◌, Bool, false, not, ◌&&◌, List, ◌++◌, map, ℕ, ◌*◌, ◌/◌, eqb, leb, pos, length, get_or, drop}
+use Rattle.std.specs.Prelude.{◌≡◌, Bool, false, not, ◌&&◌, List, ◌++◌, map, ℕ, ◌*◌, ◌/◌, eqb, leb, pos, length, get_or, drop, Ok, Err, Result}
 use Rattle.rules.specs.Ranges.{one, tabulate}
 use Rattle.rules.specs.Levels.{Level, byte, largest}
 use Rattle.rules.specs.Graphs.{Graph, limits, program_limits}
 use Rattle.rules.specs.Nodes.{Offsets, Lifting, never}
 use Rattle.rules.specs.Sequence.{Scheme, State, unlifted, sign_preserving, final, report}
-use Rattle.refusals.specs.Refusals.{unless, or_else}
-use Rattle.refusals.specs.declared.Judged.{Judged}
-use Rattle.refusals.specs.declared.Judged.TheVariants as Judgement
+use Rattle.refusals.specs.Refusals.{unless, or_else, Judged}
 use Rattle.refusals.specs.declared.Refusal.TheVariants.{Length, Blank, Buffer}
 use Rattle.words.specs.Roles.{sum_table, graph_of}
 use Rattle.graphs.specs.Judging.{graph_judged, countable, graph_judged_in}
 use Rattle.graphs.specs.Degrees.{degrees_in}
 use Rattle.graphs.specs.Calls.{Old}
 use Rattle.settings.specs.declared.Parameters.{Parameters}
-use Rattle.settings.specs.declared.Checked.{Checked}
+use Rattle.settings.specs.Settings.{Checked, largest_lift, settings, judged_with, settings_judged, checked}
 use Rattle.settings.specs.Scaling.{factor_of}
-use Rattle.settings.specs.Settings.{largest_lift, settings, judged_with, settings_judged, checked}
 use Rattle.settings.specs.Values.{values_judged, channel_level, blank_values}
 use Rattle.decoding.specs.declared.Room.{Room}
-use Rattle.decoding.specs.declared.Decoded.{Decoded}
-use Rattle.decoding.specs.declared.Decoded.TheVariants.{Ran, Refused}
+use Rattle.refusals.specs.declared.Refusal.{Refusal}
+use Rattle.rules.specs.declared.Report.{Report}
+
+-- The report of a run, or the refusal.
+abbrev pub Decoded : Type 0
+Decoded = Result Report Refusal
 
 -- One frame: the graph in its lists, the channel values, and what is asked of the run.
 pub record Frame : Type 0 where
@@ -108,12 +109,12 @@ module _ (F : Frame) where
 
   -- The answer, and the memory afterwards: 'every refusal changes no lent byte' of it.
   abbrev pub decoded : Judged → Decoded
-  decoded Judgement.Admitted = Ran (report graph scheme F.asked.limit)
-  decoded (Judgement.Refused r) = Refused r
+  decoded (Ok _) = Ok (report graph scheme F.asked.limit)
+  decoded (Err r) = Err r
 
   abbrev pub memory_after : Judged → Memory → Memory
-  memory_after Judgement.Admitted M = filled F.variables graph.entries levels (final graph scheme F.asked.limit) M
-  memory_after (Judgement.Refused r) M = M
+  memory_after (Ok _) M = filled F.variables graph.entries levels (final graph scheme F.asked.limit) M
+  memory_after (Err r) M = M
 
 -- What accepting a frame for memory of the lengths m promises of its answer r and of the list of degrees, old before and now after.
 pub record Accepts (F : Frame) (m : Room) (r : Checked) (old now : List ℕ) : Type 0 where
@@ -136,7 +137,7 @@ AsBefore = (F : Frame) (d : ℕ) (m : Room) → Old (graph F) d
 -- the settings are judged as they were before there was 16. Answer and memory are functions of these two, of the graph and of the values.
 pub record NothingLifted (F : Frame) : Type 0 where
   pub rules : scheme F ≡ unlifted (graph F) (largest F.asked.message) (offsets_of F) (levels F)
-  pub settings : F.asked.lift_to ≡ largest_lift → settings_judged F.asked ≡ judged_with F.asked Judgement.Admitted
+  pub settings : F.asked.lift_to ≡ largest_lift → settings_judged F.asked ≡ judged_with F.asked (Ok tt)
 
 abbrev pub UnliftedAsBefore : Type 0
 UnliftedAsBefore = (F : Frame) → F.asked.lift_from ≡ never → NothingLifted F

@@ -1,9 +1,8 @@
 -- Demand 3 of document 01, with document 02, item 4, over the values: one claim about all iterations and both runs, of the very functions in decode's contract.
-use Rattle.std.specs.Prelude.{◌≡◌, Bool, ◌↔◌, ℕ}
+use Rattle.std.specs.Prelude.{◌≡◌, Bool, ◌↔◌, ℕ, Ok}
 use Rattle.rules.specs.Levels.{largest}
 use Rattle.rules.specs.Graphs.{limits}
 use Rattle.rules.specs.Symmetry.{Symmetric}
-use Rattle.refusals.specs.declared.Judged.TheVariants.{Admitted}
 use Rattle.graphs.specs.Judging.{graph_judged}
 use Rattle.settings.specs.Reversal.{Bytes, reversed}
 use Rattle.decoding.specs.Decoding.{Frame, graph, levels, offsets_of, lifting_of, is_blank, frame_judged}
@@ -20,7 +19,7 @@ reversed_by c F = record {
 
 -- 'Its graph, settings and values are accepted where decode, lent long enough buffers, refuses nothing.'
 abbrev pub Accepted : Frame → Type 0
-Accepted F = frame_judged F (graph_judged limits (graph F)) ≡ Admitted
+Accepted F = frame_judged F (graph_judged limits (graph F)) ≡ Ok tt
 
 pub record Twins (F : Frame) (c : ℕ → Bool) : Type 0 where
   -- 'reversing signs .. never makes or cures a blank'

@@ -1,6 +1,6 @@
 -- Document 01, 'Trial values': every ★ case, the trial of document 02, item 1, and the whole example with its variants from their values, blank
 -- ones among them, gathered under one table test.
-use Rattle.std.specs.Prelude.{Bool, true, false, List, [], ◌∷◌, ◌++◌, map, ℕ}
+use Rattle.std.specs.Prelude.{Bool, true, false, List, [], ◌∷◌, ◌++◌, map, ℕ, Ok, Err}
 use Rattle.std.specs.Float.{binary32}
 use Rattle.std.specs.Float.Ieee.{of_bits}
 use Rattle.rules.specs.Tables.{AllPass, same_list}
@@ -18,10 +18,8 @@ use Rattle.graphs.specs.Judging.{graph_judged}
 use Rattle.settings.specs.declared.Scaling.TheVariants.{Plain}
 use Rattle.settings.specs.Settings.{largest_lift}
 use Rattle.settings.specs.Trials as Levels
-use Rattle.decoding.specs.Decoding.{Frame, graph, scheme, frame_judged, decoded}
+use Rattle.decoding.specs.Decoding.{Frame, graph, scheme, frame_judged, decoded, Decoded}
 use Rattle.decoding.specs.Frames.{frame}
-use Rattle.decoding.specs.declared.Decoded.{Decoded}
-use Rattle.decoding.specs.declared.Decoded.TheVariants.{Ran, Refused}
 
 pub data Trial : Type 0 where
   -- a channel value and its level
@@ -73,8 +71,8 @@ trials =
 
 -- What decode answers, lent long enough buffers: the verdict, iterations and unsatisfied checks, or the refusal's number and place.
 unfoldable pub answered : Decoded → List ℕ
-answered (Ran r) = verdict_number r.verdict ∷ r.iterations ∷ r.unsatisfied ∷ []
-answered (Refused r) = (paper r).number ∷ (paper r).place ∷ []
+answered (Ok r) = verdict_number r.verdict ∷ r.iterations ∷ r.unsatisfied ∷ []
+answered (Err r) = (paper r).number ∷ (paper r).place ∷ []
 
 unfoldable pub answer : Frame → List ℕ
 answer F = answered (decoded F (frame_judged F (graph_judged limits (graph F))))

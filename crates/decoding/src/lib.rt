@@ -1,9 +1,32 @@
-// The answers of decode and of a pair, and the lengths of lent memory. What they mean is in specs/.
+// A frame and a pair of heads as they are lent, whose refusal it is, and the lengths of lent memory. What they mean is in specs/.
 #![tactic(auto)]
 
-use refusals::Refusal;
-use rules::Report;
-use settings::Settings;
+use settings::Parameters;
+use words::Graph;
+
+// One frame: its graph, the channel values, and what is asked of the run.
+#[derive(Clone, Copy)]
+pub struct Frame<'a> {
+    pub graph: Graph<'a>,
+    pub values: &'a [u8],
+    pub asked: Parameters,
+}
+
+// What one head reads, and what is asked of its run.
+#[derive(Clone, Copy)]
+pub struct Head<'a> {
+    pub values: &'a [u8],
+    pub asked: Parameters,
+}
+
+// Two heads that read one graph, with one allowance of iterations for both.
+#[derive(Clone, Copy)]
+pub struct Heads<'a> {
+    pub graph: Graph<'a>,
+    pub allowance: u32,
+    pub first: Head<'a>,
+    pub second: Head<'a>,
+}
 
 // The lengths of the lent memory, in bytes.
 #[derive(Clone, Copy)]
@@ -15,31 +38,10 @@ pub struct Room {
     pub bits: usize,
 }
 
-// The report of a run, or the refusal.
-#[derive(Drop)]
-pub enum Decoded {
-    Ran(Report),
-    Refused(Refusal),
-}
-
 // Whose refusal it is: that of the pair, which is neither head's, or a head's.
 #[derive(Clone, Copy)]
 pub enum Party {
     Pair,
     First,
     Second,
-}
-
-// The reports of the first and the second head, or the refusal and whose it is.
-#[derive(Drop)]
-pub enum Paired {
-    Ran(Report, Report),
-    Refused(Party, Refusal),
-}
-
-// The settings of the first and the second head, or the refusal and whose it is.
-#[derive(Drop)]
-pub enum CheckedPair {
-    Good(Settings, Settings),
-    Refused(Party, Refusal),
 }

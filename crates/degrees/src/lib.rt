@@ -7,17 +7,15 @@ ghost use Rattle.words.specs.Words.{stored, table};
 ghost use Rattle.words.specs.Roles.{degree_at};
 ghost use Rattle.graphs.specs.Variables.{variables_judged};
 
-use refusals::{Judged, Refusal};
+use refusals::Refusal;
 
 // Makes the degrees of n variables 0.
 pub fn clear(degrees: &mut [u8], n: usize)
     requires { n ≤ length degrees.old / 4 }
     ensures { degrees.new ≡ table 4 (λ _. 0) n ++ drop (4 * n) degrees.old }
 {
-    let mut v = 0;
-    while v < n {
+    for v in 0..n {
         words::put_degree(degrees, v, 0);
-        v += 1;
     }
 }
 
@@ -31,20 +29,18 @@ pub fn add_one(degrees: &mut [u8], v: usize)
 }
 
 // 5, for n variables after m checks.
-pub fn judge(m: usize, n: usize, degrees: &[u8]) -> Judged
+pub fn judge(m: usize, n: usize, degrees: &[u8]) -> Result<(), Refusal>
     requires { (m ≤ limits.checks) × (n ≤ limits.variables) × (n ≤ length degrees.now / 4) }
     ensures { result ≡ variables_judged limits m (degree_at degrees.now) n }
 {
-    let mut v = 0;
-    while v < n {
+    for v in 0..n {
         if !rules::in_range(
             rules::LEAST_VARIABLE_DEGREE,
             words::degree(degrees, v),
             rules::LARGEST_VARIABLE_DEGREE,
         ) {
-            return Judged::Refused(Refusal::Degree(m + v));
+            return Err(Refusal::Degree(m + v));
         }
-        v += 1;
     }
-    Judged::Admitted
+    Ok(())
 }

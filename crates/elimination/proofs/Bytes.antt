@@ -10,11 +10,11 @@ use native.Mathlib.Omega.{arith}
 use borrow.Author.Tests.{eq-eqb, ne_eqb}
 use lib.Bits.{bit_xor, differ, xor_shr, xor_step}
 use lib.Dec.{eqb, eqb-zero-suc, eqb-suc-zero, eqb-suc-suc}
-use lib.ListN.{length, get_or, drop, set, length-set}
+use lib.ListN.{length, get_or, set, length-set, get_or-append}
 use lib.Pow.{pow_pos}
 use lib.Seq.{get_or-set_same, get_or-set_other}
-use Rattle.rules.specs.Ranges.{tabulate}
-use Rattle.rules.proofs.Ranges.{get_d_front}
+use Rattle.std.specs.List.{between}
+use Rattle.std.proofs.lemmas.List.Edits.{length-between, get_or-between}
 use Rattle.rules.proofs.Signs.{xor_false}
 use Rattle.elimination.specs.Rows.{width, digit, bit_in, rows_in, flipped, row_in, Copied, Below, Added, Summed, Turned, Done}
 
@@ -183,17 +183,18 @@ module _ {n j : ℕ} where
             ∙ ap (λ (y : ℕ). bit_xor y (get_or row (n / 8) 0)) (a.outside last (inr (omega arith)))
             ∙ ap (λ (k : ℕ). bit_xor (get_or old (width n * j + k) 0) (get_or row k 0)) (sym g))
 
--- a row copied
-pub copied : (n i : ℕ) (row : List ℕ) {row' : List ℕ} (l : List ℕ) → row' ≡ tabulate (λ k. get_or l (width n * i + k) 0) (width n) ++ drop (width n) row → Copied n i row' l
+-- a row copied, in front of other bytes
+pub copied : (n i : ℕ) {row : List ℕ} (rest l : List ℕ) → width n * i + width n ≤ length l → row ≡ between (width n * i) (width n * i + width n) l → Copied n i (row ++ rest) l
 unfolding bit_in row_in
-copied n i row {row'} l e u h =
-    ap (λ (x : ℕ). digit x (u % 8))
-    (ap (λ (x : List ℕ). get_or x (u / 8) 0) e ∙ get_d_front (λ k. get_or l (width n * i + k) 0) (width n) (drop (width n) row) (u / 8) 0 (omega arith))
+copied n i {row} rest l f e u h = ap (λ (x : ℕ). digit x (u % 8)) (front ∙ ap (λ (x : List ℕ). get_or x (u / 8) 0) e ∙ get_or-between l (width n * i) _ (u / 8) 0 (omega arith))
+  where
+    long : length row ≡ width n
+    long = ap length e ∙ length-between l _ _ f ∙ omega arith
+
+    front : get_or (row ++ rest) (u / 8) 0 ≡ get_or row (u / 8) 0
+    front = get_or-append row rest 0 (u / 8) (omega (arith, long))
 
 module _ {n : ℕ} {F : ℕ → ℕ → Bool} where
-  pub done_none : {l : List ℕ} → Done n 0 F l l
-  done_none = record { long = refl; below = λ k u h. absurd (omega arith); above = λ k u h l. refl }
-
   pub done_more : {j : ℕ} {r : ℕ → Bool} {old now later : List ℕ} → Done n j F old now → Turned n j r now later
       → ((u : ℕ) → u ≤ n → r u ≡ F j u) → Done n (j + 1) F old later
   done_more {j} {r} {old} {now} {later} d t e = record {

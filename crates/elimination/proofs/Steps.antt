@@ -48,9 +48,6 @@ unfolding cleared
 clear_more {n} {j} {old} {now} {later} i h l d t =
     done_more d t (λ u m. rw (d.above j h (omega arith) (omega arith), d.above j u (omega arith) m, clear_row i h d u m))
 
-pub done_all : {n j m : ℕ} {F : ℕ → ℕ → Bool} {old new : List ℕ} → j ≡ m → Done n j F old new → Done n m F old new
-done_all {n} {j} {m} {F} {old} {new} e d = subst (λ (j : ℕ). Done n j F old new) e d
-
 -- ---- all rows done
 
 -- rows that agree up to bit n
@@ -94,15 +91,6 @@ module _ {m n i : ℕ} where
     none = λ r x s. b.none r x ((a.same x).0 s);
   }
 
-pub eliminated_none : {m n : ℕ} {l : List ℕ} → Eliminated m n 0 0 true l l
-eliminated_none = record {
-  long = refl;
-  reduced = λ r ok. ok;
-  same = λ x. (λ s. s, λ s. s);
-  absent = λ v h a. a;
-  none = λ r. absurd (true≢false r);
-}
-
 pub eliminated_fail : {m n e : ℕ} {r : Bool} {old new : List ℕ} → r ≡ false → Eliminated m n 0 e r old new → Eliminated m n 0 m false old new
 eliminated_fail {r = r} p a = record {
   long = a.long;
@@ -114,9 +102,6 @@ eliminated_fail {r = r} p a = record {
 
 pub eliminated_next : {m n i : ℕ} {r : Bool} {old new : List ℕ} → r ≡ true → Eliminated m n 0 i r old new → Eliminated m n 0 i true old new
 eliminated_next {m} {n} {i} {r} {old} {new} e a = subst (λ (r : Bool). Eliminated m n 0 i r old new) e a
-
-pub eliminated_all : {m n i : ℕ} {old new : List ℕ} → i ≡ m → Eliminated m n 0 i true old new → Eliminated m n 0 m true old new
-eliminated_all {m} {n} {i} {old} {new} e a = subst (λ (i : ℕ). Eliminated m n 0 i true old new) e a
 
 -- ---- a variable replaced by its value
 

@@ -26,7 +26,7 @@ pub fn flip(work: &mut [u8], b: usize, v: usize)
     requires { b + v / 8 < length work.old }
     ensures { work.new ≡ flipped work.old b v }
 {
-    work[b + v / 8] = work[b + v / 8] ^ (1u8 << (v % 8));
+    work[b + v / 8] ^= 1 << (v % 8);
 }
 
 // A place below v from which on the bits to before v - 1 are 0: v - 8 where a byte ends at v and is 0, else v - 1.
@@ -34,21 +34,20 @@ fn skip(work: &[u8], b: usize, v: usize) -> usize
     requires { (0 < v) × (b + (v - 1) / 8 < length work.now) }
     ensures { (result < v) × ((u : ℕ) → result ≤ u → u < v - 1 → bit_in work.now b u ≡ false) }
 {
-    if v % 8 != 0 {
-        return v - 1;
+    if v % 8 == 0 && work[b + (v - 1) / 8] == 0 {
+        v - 8
+    } else {
+        v - 1
     }
-    if work[b + (v - 1) / 8] != 0 {
-        return v - 1;
-    }
-    v - 8
 }
 
-// One more than the highest variable of the row at byte b, or 0.
+// One more than the highest variable of the row at byte b, or 0: the number that `top` of specs/Systems is, of which the theorems speak.
 pub fn highest(work: &[u8], b: usize, n: usize) -> usize
     requires { b + n / 8 < length work.now }
     ensures { result ≡ top n (bit_in work.now b) }
 {
     let mut v = n;
+    // By hand: it steps down by a bit or, where 8 of them are 0, by a byte.
     while 0 < v {
         if bit(work, b, v - 1) {
             return v;
@@ -60,25 +59,12 @@ pub fn highest(work: &[u8], b: usize, n: usize) -> usize
 
 // ---- a row added to others
 
-// Copies the w bytes of the row at byte a.
-fn copy_row(row: &mut [u8], work: &[u8], a: usize, w: usize)
-    requires { (w ≤ length row.old) × (a + w ≤ length work.now) }
-    ensures { row.new ≡ tabulate (λ k. get_or work.now (a + k) 0) w ++ drop w row.old }
-{
-    let mut k = 0;
-    while k < w {
-        row[k] = work[a + k];
-        k += 1;
-    }
-}
-
 // How many of a row's w bytes to add where h is its highest variable: all up to that of h, in blocks of 32 as the machine adds them.
 fn span(w: usize, h: usize) -> usize
     requires { h / 8 < w }
     ensures { (h / 8 < result) × (result ≤ w) }
 {
-    let t = h / 256 * 32 + 32;
-    if t < w { t } else { w }
+    (h / 256 * 32 + 32).min(w)
 }
 
 // Adds t bytes of a row to those from byte b on.
@@ -86,10 +72,8 @@ fn add_bytes(work: &mut [u8], row: &[u8], t: usize, b: usize)
     requires { (t ≤ length row.now) × (b + t ≤ length work.old) }
     ensures { Added row.now b t work.old work.new }
 {
-    let mut k = 0;
-    while k < t {
-        work[b + k] = work[b + k] ^ row[k];
-        k += 1;
+    for (k, &x) in row[..t].iter().enumerate() {
+        work[b + k] ^= x;
     }
 }
 
@@ -103,7 +87,7 @@ fn add_row(work: &mut [u8], row: &[u8], n: usize, j: usize, h: usize)
     let t = span(w, h);
     add_bytes(work, row, t, b);
     if t < w {
-        work[b + n / 8] = work[b + n / 8] ^ row[n / 8];
+        work[b + n / 8] ^= row[n / 8];
     }
 }
 
@@ -126,10 +110,8 @@ fn clear_others(work: &mut [u8], row: &[u8], n: usize, m: usize, i: usize, h: us
     requires { (length work.old ≡ width n * m) × (width n ≤ length row.now) × (h < n) × Below n h row.now × Copied n i row.now work.old }
     ensures { Done n m (cleared i h (rows_in n work.old)) work.old work.new }
 {
-    let mut j = 0;
-    while j < m {
+    for j in 0..m {
         clear_one(work, row, n, i, j, h);
-        j += 1;
     }
 }
 
@@ -141,11 +123,12 @@ fn reduce(work: &mut [u8], row: &mut [u8], n: usize, m: usize, i: usize) -> bool
     ensures { Eliminated m n i (i + 1) result work.old work.new }
 {
     let w = n / 8 + 1;
-    let h = highest(work, w * i, n);
+    let b = w * i;
+    let h = highest(work, b, n);
     if h == 0 {
-        return !bit(work, w * i, n);
+        return !bit(work, b, n);
     }
-    copy_row(row, work, w * i, w);
+    row[..w].copy_from_slice(&work[b..b + w]);
     clear_others(work, row, n, m, i, h - 1);
     true
 }
@@ -156,12 +139,10 @@ pub fn eliminate(work: &mut [u8], n: usize, m: usize) -> bool
     ensures { Eliminated m n 0 m result work.old work.new }
 {
     let mut row = [0u8; WIDEST];
-    let mut i = 0;
-    while i < m {
+    for i in 0..m {
         if !reduce(work, &mut row, n, m, i) {
             return false;
         }
-        i += 1;
     }
     true
 }
@@ -188,9 +169,7 @@ pub fn replace(work: &mut [u8], n: usize, m: usize, v: usize, b: bool)
     requires { (length work.old ≡ width n * m) × (v < n) }
     ensures { Done n m (replaced n v b (rows_in n work.old)) work.old work.new }
 {
-    let mut j = 0;
-    while j < m {
+    for j in 0..m {
         replace_one(work, n, j, v, b);
-        j += 1;
     }
 }

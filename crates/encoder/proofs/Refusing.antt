@@ -1,20 +1,18 @@
 -- What the refusals tell, and the whole call.
-use mathlib.Core.Path.{◌≡◌, refl, sym, ap, ap₂, subst, ◌∙◌}
-use mathlib.Core.Bool.{Bool, true, false, ◌&&◌, ◌||◌, true≢false}
+use Rattle.std.specs.Prelude.{Ok, Err}
+use mathlib.Core.Path.{◌≡◌, refl, sym, ap, ◌∙◌}
+use mathlib.Core.Bool.{Bool, true, false, ◌||◌, true≢false}
 use mathlib.Core.List.{List, ◌++◌}
-use Prim.Native.Nat.{ℕ, zero, suc, ◌+◌, ◌-◌, ◌*◌, ◌/◌, ◌≤◌, ◌<◌}
+use Prim.Native.Nat.{ℕ, zero, suc, ◌-◌, ◌/◌, ◌≤◌, ◌<◌}
 use native.Mathlib.Decide.{dec_lt}
-use native.Mathlib.Nat.{mul-le-mul_left}
 use native.Mathlib.Omega.{arith}
-use borrow.Author.Tests.{lt-ltb, le-ltb, ltb-true, leb-true, le-leb, lt-leb, eqb-true, eq-eqb, ne_eqb}
+use borrow.Author.Tests.{ltb-true, leb-true, eqb-true, ne_eqb}
 use lib.Dec.{eqb, leb, ltb}
 use lib.ListN.{length, get_or, take, drop, take-append-drop, get_or-eq_default}
 use lib.Seq.{ext_get_or, length-take-le}
 use Rattle.rules.specs.Graphs.{Graph, AdmittedWithin}
 use Rattle.rules.specs.Ranges.{one, tabulate}
-use Rattle.refusals.specs.Refusals.{unless, or_else}
-use Rattle.refusals.specs.declared.Judged.{Judged}
-use Rattle.refusals.specs.declared.Judged.TheVariants.{Admitted, Refused}
+use Rattle.refusals.specs.Refusals.{unless, or_else, Judged}
 use Rattle.refusals.specs.declared.Refusal.{Refusal}
 use Rattle.refusals.specs.declared.Refusal.TheVariants.{Buffer, Positions, NoCodeword, Bit}
 use Rattle.refusals.proofs.Judging.{refused_not, or_else_left, or_else_right, unless_true, all_true}
@@ -27,29 +25,17 @@ use Rattle.graphs.proofs.Lending.{lent_admitted}
 use Rattle.codewords.specs.Encoding.{encoder_limits, given_of, position_fits, positions_judged, given_judged, input_judged, work_bytes, room_judged, encode_judged, worked_in, JudgesInput, Encodes}
 use Rattle.solving.specs.Solving.{Bits, Rising, Gives, Solved}
 
--- ---- one position
-
-pub fit_out : {n x : ℕ} (p : ℕ → ℕ) (k : ℕ) → x ≡ p k → n ≤ x → false ≡ position_fits n p k
-fit_out {n} p k e l = sym (ap (λ b. b && (eqb k 0 || ltb (p (k - 1)) (p k))) (le-ltb (p k) n (omega arith)))
-
-pub fit_first : {n x : ℕ} (p : ℕ → ℕ) (k : ℕ) → x ≡ p k → x < n → k ≡ 0 → true ≡ position_fits n p k
-fit_first {n} p k e l z = sym (ap₂ (λ a b. a && (b || ltb (p (k - 1)) (p k))) (lt-ltb (p k) n (omega arith)) (eq-eqb k 0 z))
-
-pub fit_next : {n x y : ℕ} (p : ℕ → ℕ) (k : ℕ) → x ≡ p k → y ≡ p (k - 1) → x < n → (k ≡ 0 → ⊥) → ltb y x ≡ position_fits n p k
-fit_next {n} p k e f l z =
-    sym (ap₂ (λ a b. a && (b || ltb (p (k - 1)) (p k))) (lt-ltb (p k) n (omega arith)) (ne_eqb k 0 z) ∙ ap₂ ltb (sym f) (sym e))
-
 or_right : (a b : Bool) → a ≡ false → a || b ≡ true → b ≡ true
 or_right true b p h = absurd (true≢false p)
 or_right false b p h = h
 
 -- ---- what is told where nothing is refused
 
-module _ (n : ℕ) (positions given : List ℕ) (h : given_judged n positions given ≡ Admitted) where
+module _ (n : ℕ) (positions given : List ℕ) (h : given_judged n positions given ≡ Ok tt) where
   same : Judged
   same = unless (eqb (length positions / 2) (length given)) Positions
 
-  rest : or_else (positions_judged n positions) (bytes_judged given) ≡ Admitted
+  rest : or_else (positions_judged n positions) (bytes_judged given) ≡ Ok tt
   unfolding given_judged same
   rest = or_else_right same (or_else (positions_judged n positions) (bytes_judged given)) h
 
@@ -90,47 +76,25 @@ pub record InputTold (G : Graph) (positions given : List ℕ) : Type 0 where
   pub graph : AdmittedWithin encoder_limits G
   pub gives : Gives G.variables (given_of positions given) given
 
-input_told : (G : Graph) (positions given : List ℕ) (d : ℕ) → input_judged G positions given d ≡ Admitted → InputTold G positions given
+input_told : (G : Graph) (positions given : List ℕ) (d : ℕ) → input_judged G positions given d ≡ Ok tt → InputTold G positions given
 unfolding input_judged
 input_told G positions given d h =
     let g = graph_judged_in encoder_limits G d in
     let r = given_judged G.variables positions given in
     record { graph = lent_admitted G d (or_else_left g r h); gives = given_gives G.variables positions given (or_else_right g r h) }
 
-pub judged_input : {G : Graph} {positions given : List ℕ} {j : Judged} {d d' : List ℕ} → JudgesInput G positions given j d d' → j ≡ Admitted → InputTold G positions given
-judged_input {G} {positions} {given} {d = d} k e = input_told G positions given (length d) (sym k.answer ∙ e)
+pub judged_input : {G : Graph} {positions given d d' : List ℕ} → JudgesInput G positions given (Ok tt) d d' → InputTold G positions given
+judged_input {G} {positions} {given} {d} k = input_told G positions given (length d) (sym k.answer)
 
 -- of the room
-pub room_told : (G : Graph) (c w : ℕ) → room_judged G c w ≡ Admitted → (G.variables ≤ c) × (work_bytes G ≤ w)
+pub room_told : (G : Graph) (c w : ℕ) → Ok tt ≡ room_judged G c w → (G.variables ≤ c) × (work_bytes G ≤ w)
 unfolding room_judged
 room_told G c w h =
     let a = unless (leb G.variables c) Buffer in
     let b = unless (leb (work_bytes G) w) Buffer in (
-      leb-true G.variables c (unless_true (leb G.variables c) Buffer (or_else_left a b h)),
-      leb-true (work_bytes G) w (unless_true (leb (work_bytes G) w) Buffer (or_else_right a b h)),
+      leb-true G.variables c (unless_true (leb G.variables c) Buffer (or_else_left a b (sym h))),
+      leb-true (work_bytes G) w (unless_true (leb (work_bytes G) w) Buffer (or_else_right a b (sym h))),
     )
-
--- the work bytes are few
-pub work_few : (n m : ℕ) → n ≤ encoder_limits.variables → m ≤ encoder_limits.checks → (n / 8 + 1) * m ≤ 131584
-work_few n m a b = omega (arith, mul-le-mul_left {m = m} {n = 512} (n / 8 + 1) b)
-
--- ---- 6
-
-module _ (G : Graph) (c w : ℕ) {n m : ℕ} (en : G.variables ≡ n) (em : G.checks ≡ m) where
-  size : work_bytes G ≡ (n / 8 + 1) * m
-  size = rw (en, em)
-
-  pub room_short : c < n → Refused Buffer ≡ room_judged G c w
-  unfolding room_judged
-  room_short l = sym (rw (lt-leb G.variables c (omega arith)))
-
-  pub room_little : n ≤ c → w < (n / 8 + 1) * m → Refused Buffer ≡ room_judged G c w
-  unfolding room_judged
-  room_little l k = sym (rw (le-leb G.variables c (omega arith), lt-leb (work_bytes G) w (subst (λ (x : ℕ). w < x) (sym size) k)))
-
-  pub room_enough : n ≤ c → (n / 8 + 1) * m ≤ w → Admitted ≡ room_judged G c w
-  unfolding room_judged
-  room_enough l k = sym (rw (le-leb G.variables c (omega arith), le-leb (work_bytes G) w (subst (λ (x : ℕ). x ≤ w) (sym size) k)))
 
 -- ---- the call, where it ends
 
@@ -147,41 +111,42 @@ bytes_are l n e b =
     f : ℕ → ℕ
     f v = one (bit_of_byte l v)
 
-module _ {G : Graph} {positions given : List ℕ} {j : Judged} {d d' : List ℕ} (k : JudgesInput G positions given j d d') (c w : List ℕ) where
-  pub encodes_input : {q : Refusal} → j ≡ Refused q → Encodes G positions given (Refused q) d d' c c w w
+module _ {G : Graph} {positions given d d' : List ℕ} (c w : List ℕ) where
+  pub encodes_input : {q : Refusal} → JudgesInput G positions given (Err q) d d' → Encodes G positions given (Err q) d d' c c w w
   unfolding encode_judged
-  encodes_input {q} e = record {
+  encodes_input {q} k = record {
     degrees = k.degrees;
     refused = λ s f. (sym found ∙ f, refl, refl);
     accepted = λ f. absurd (refused_not (sym found ∙ f));
   }
     where
-      found : encode_judged G positions given (length d) (length c) (length w) ≡ Refused q
-      found = rw (sym k.answer ∙ e)
+      found : encode_judged G positions given (length d) (length c) (length w) ≡ Err q
+      found = rw (sym k.answer)
 
-  module _ (good : j ≡ Admitted) where
-    judged : {r : Judged} → room_judged G (length c) (length w) ≡ r → encode_judged G positions given (length d) (length c) (length w) ≡ r
+  module _ (k : JudgesInput G positions given (Ok tt) d d') where
+    judged : {r : Judged} → r ≡ room_judged G (length c) (length w) → encode_judged G positions given (length d) (length c) (length w) ≡ r
     unfolding encode_judged
-    judged e = rw (sym k.answer ∙ good, e)
+    judged e = rw (sym k.answer, ← e)
 
-    pub encodes_room : {q : Refusal} → room_judged G (length c) (length w) ≡ Refused q → Encodes G positions given (Refused q) d d' c c w w
+    pub encodes_room : {q : Refusal} → Err q ≡ room_judged G (length c) (length w) → Encodes G positions given (Err q) d d' c c w w
     encodes_room e = record {
       degrees = k.degrees;
       refused = λ s f. (sym (judged e) ∙ f, refl, refl);
       accepted = λ f. absurd (refused_not (sym (judged e) ∙ f));
     }
 
-    -- a solution in the first n bytes of the codeword and in the work bytes
-    module _ (room : room_judged G (length c) (length w) ≡ Admitted) {r : Bool} {front zeros c' w' : List ℕ}
-        (s : Solved G (given_of positions given) G.variables r (take G.variables c) front (take (work_bytes G) w) zeros)
-        (at_front : c' ≡ front ++ drop G.variables c) (at-work : w' ≡ zeros ++ drop (work_bytes G) w) where
+    -- a solution in the first n bytes of the codeword and in the work bytes, of which there are x
+    module _ (room : Ok tt ≡ room_judged G (length c) (length w)) {x : ℕ} (few : x ≡ work_bytes G) {r : Bool} {front zeros c' w' : List ℕ}
+        (s : Solved G (given_of positions given) G.variables r (take G.variables c) front (take x w) zeros)
+        (at_front : c' ≡ front ++ drop G.variables c) (at_work : w' ≡ zeros ++ drop x w) where
       worked : w' ≡ worked_in G w
       worked =
-          at-work
-          ∙ ap (λ (x : List ℕ). x ++ drop (work_bytes G) w)
-          (s.cleared ∙ ap (tabulate (λ k. 0)) (length-take-le (work_bytes G) w (room_told G (length c) (length w) room).1))
+          at_work
+          ∙ ap (λ (y : List ℕ). y ++ drop x w)
+          (s.cleared ∙ ap (tabulate (λ k. 0)) (length-take-le x w (omega (arith, (room_told G (length c) (length w) room).1))))
+          ∙ ap (λ (y : ℕ). tabulate (λ k. 0) y ++ drop y w) few
 
-      pub encodes_found : r ≡ true → Encodes G positions given Admitted d d' c c' w w'
+      pub encodes_found : r ≡ true → Encodes G positions given (Ok tt) d d' c c' w w'
       encodes_found t = record {
         degrees = k.degrees;
         refused = λ q f. absurd (refused_not (sym f ∙ judged room));
@@ -189,7 +154,7 @@ module _ {G : Graph} {positions given : List ℕ} {j : Judged} {d d' : List ℕ}
           record {
             codeword = bit_of_byte front;
             least = (s.found t).least;
-            written = at_front ∙ ap (λ (x : List ℕ). x ++ drop G.variables c) (bytes_are front G.variables long (s.found t).bits);
+            written = at_front ∙ ap (λ (y : List ℕ). y ++ drop G.variables c) (bytes_are front G.variables long (s.found t).bits);
           },
           worked,
         );
@@ -198,7 +163,7 @@ module _ {G : Graph} {positions given : List ℕ} {j : Judged} {d d' : List ℕ}
           long : length front ≡ G.variables
           long = (s.found t).long ∙ length-take-le G.variables c (room_told G (length c) (length w) room).0
 
-      pub encodes_none : r ≡ false → Encodes G positions given (Refused NoCodeword) d d' c c' w w'
+      pub encodes_none : r ≡ false → Encodes G positions given (Err NoCodeword) d d' c c' w w'
       encodes_none t = record {
         degrees = k.degrees;
         refused = λ q f. absurd (refused_not (sym f ∙ judged room));
@@ -207,7 +172,7 @@ module _ {G : Graph} {positions given : List ℕ} {j : Judged} {d d' : List ℕ}
             refl,
             record {
               none = (s.none t).0;
-              kept = at_front ∙ ap (λ (x : List ℕ). x ++ drop G.variables c) (s.none t).1 ∙ take-append-drop G.variables c;
+              kept = at_front ∙ ap (λ (y : List ℕ). y ++ drop G.variables c) (s.none t).1 ∙ take-append-drop G.variables c;
             },
           ),
           worked,

@@ -1,12 +1,12 @@
 // The writing side: the codeword that holds given bits, or the refusal.
 #![tactic(auto)]
 
-ghost use Rattle.std.specs.Prelude.{◌≡◌, ◌&&◌, ◌-◌, ◌/◌, ◌<◌, ◌≤◌, leb, length};
-ghost use Rattle.rules.specs.Graphs.{Graph};
-ghost use Rattle.words.specs.Roles.{wide, position_at, graph_of};
-ghost use Rattle.codewords.specs.Encoding.{encoder_limits, position_fits, positions_judged, given_judged, room_judged, JudgesInput, Encodes};
+ghost use Rattle.std.specs.Prelude.{◌≡◌, ◌&&◌, ◌*◌, ◌/◌, ◌<◌, ◌≤◌, leb, length};
+ghost use Rattle.words.specs.Roles.{position_at, graph_lent};
+ghost use Rattle.codewords.specs.Encoding.{encoder_limits, position_fits, positions_judged, given_judged, work_bytes, room_judged, JudgesInput, Encodes};
 
-use refusals::{Judged, Refusal};
+use refusals::Refusal;
+use words::Graph;
 
 // The largest graph: `encoder_limits`.
 const MOST_VARIABLES: usize = 2048;
@@ -14,10 +14,10 @@ const MOST_VARIABLES: usize = 2048;
 const MOST_CHECKS: usize = 512;
 
 // Whether a graph has not too many variables and checks.
-fn is_small(n: usize, starts: &[u8]) -> bool
-    ensures { result ≡ (leb n encoder_limits.variables && leb (length starts.now / wide - 1) encoder_limits.checks) }
+fn is_small(graph: Graph) -> bool
+    ensures { result ≡ (leb graph.entry.variables encoder_limits.variables && leb (graph_lent graph.entry).checks encoder_limits.checks) }
 {
-    (n <= MOST_VARIABLES) & (starts.len() / words::WIDE <= MOST_CHECKS + 1)
+    (graph.variables <= MOST_VARIABLES) & (graph.checks() <= MOST_CHECKS)
 }
 
 // Whether position k is below n and above the one before.
@@ -26,111 +26,94 @@ fn position_fits(n: usize, positions: &[u8], k: usize) -> bool
     ensures { result ≡ position_fits n (position_at positions.now) k }
 {
     let p = words::position(positions, k);
-    if n <= p {
-        return false;
-    }
-    if k == 0 {
-        return true;
-    }
-    words::position(positions, k - 1) < p
+    p < n && (k == 0 || words::position(positions, k - 1) < p)
 }
 
 // 18: the positions.
-fn check_positions(n: usize, positions: &[u8]) -> Judged
+fn check_positions(n: usize, positions: &[u8]) -> Result<(), Refusal>
     ensures { result ≡ positions_judged n positions.now }
 {
-    let mut k = 0;
-    while k < positions.len() / 2 {
+    for k in 0..positions.len() / 2 {
         if !position_fits(n, positions, k) {
-            return Judged::Refused(Refusal::Positions);
+            return Err(Refusal::Positions);
         }
-        k += 1;
     }
-    Judged::Admitted
+    Ok(())
 }
 
 // 18 and 15: what is given.
-fn check_given(n: usize, positions: &[u8], given: &[u8]) -> Judged
+#[tactic(auto, unfolding(codewords::specs::Encoding::given_judged))]
+fn check_given(n: usize, positions: &[u8], given: &[u8]) -> Result<(), Refusal>
     ensures { result ≡ given_judged n positions.now given.now }
 {
     if positions.len() / 2 != given.len() {
-        return Judged::Refused(Refusal::Positions);
+        return Err(Refusal::Positions);
     }
-    let j = check_positions(n, positions);
-    if let Judged::Refused(r) = j {
-        return Judged::Refused(r);
-    }
+    check_positions(n, positions)?;
     graph::check_bits(given)
 }
 
 // All that is refused before the lent memory is looked at, but for the list of degrees; counts the variables' degrees in that.
 pub fn judge(
-    n: usize,
-    starts: &[u8],
-    columns: &[u8],
+    graph: Graph,
     positions: &[u8],
     given: &[u8],
     degrees: &mut [u8],
-) -> Judged
-    ensures { JudgesInput (graph_of n starts.now columns.now) positions.now given.now result degrees.old degrees.new }
+) -> Result<(), Refusal>
+    ensures { JudgesInput (graph_lent graph.entry) positions.now given.now result degrees.old degrees.new }
 {
-    if !is_small(n, starts) {
-        return Judged::Refused(Refusal::Count(0));
+    if !is_small(graph) {
+        return Err(Refusal::Count(0));
     }
-    let j = graph::check(n, starts, columns, degrees);
-    if let Judged::Refused(r) = j {
-        return Judged::Refused(r);
-    }
-    check_given(n, positions, given)
+    graph::check(graph, degrees)?;
+    check_given(graph.variables, positions, given)
 }
 
-// 6: what is lent beside the list of degrees, for n variables and m checks.
-fn check_room(n: usize, m: usize, codeword: usize, work: usize) -> Judged
-    requires { (n ≤ encoder_limits.variables) × (m ≤ encoder_limits.checks) }
-    ensures { (G : Graph) → G.variables ≡ n → G.checks ≡ m → result ≡ room_judged G codeword work }
+// How many bytes are worked in.
+fn work_bytes(graph: Graph) -> usize
+    requires { (graph.variables ≤ encoder_limits.variables) × ((graph_lent graph).checks ≤ encoder_limits.checks) }
+    ensures { result ≡ work_bytes (graph_lent graph.entry) }
 {
-    if codeword < n {
-        return Judged::Refused(Refusal::Buffer);
+    (graph.variables / 8 + 1) * graph.checks()
+}
+
+// 6: what is lent beside the list of degrees.
+#[tactic(auto, unfolding(codewords::specs::Encoding::room_judged))]
+fn check_room(graph: Graph, codeword: usize, work: usize) -> Result<(), Refusal>
+    requires { (graph.variables ≤ encoder_limits.variables) × ((graph_lent graph).checks ≤ encoder_limits.checks) }
+    ensures { result ≡ room_judged (graph_lent graph.entry) codeword work }
+{
+    if codeword < graph.variables {
+        return Err(Refusal::Buffer);
     }
-    if work < (n / 8 + 1) * m {
-        return Judged::Refused(Refusal::Buffer);
+    if work < work_bytes(graph) {
+        return Err(Refusal::Buffer);
     }
-    Judged::Admitted
+    Ok(())
 }
 
 // Gives the codeword that holds the given bits, of several the one with 0 at the first place where they differ, or says why not.
 pub fn encode(
-    n: usize,
-    starts: &[u8],
-    columns: &[u8],
+    graph: Graph,
     positions: &[u8],
     given: &[u8],
     degrees: &mut [u8],
     codeword: &mut [u8],
     work: &mut [u8],
-) -> Judged
-    ensures { Encodes (graph_of n starts.now columns.now) positions.now given.now result degrees.old degrees.new codeword.old codeword.new work.old work.new }
+) -> Result<(), Refusal>
+    ensures { Encodes (graph_lent graph.entry) positions.now given.now result degrees.old degrees.new codeword.old codeword.new work.old work.new }
 {
-    let j = judge(n, starts, columns, positions, given, degrees);
-    if let Judged::Refused(r) = j {
-        return Judged::Refused(r);
-    }
-    let m = starts.len() / words::WIDE - 1;
-    let j = check_room(n, m, codeword.len(), work.len());
-    if let Judged::Refused(r) = j {
-        return Judged::Refused(r);
-    }
-    let size = (n / 8 + 1) * m;
+    judge(graph, positions, given, degrees)?;
+    check_room(graph, codeword.len(), work.len())?;
+    let size = work_bytes(graph);
     if solving::solve(
-        n,
-        starts,
-        columns,
+        graph,
         positions,
         given,
-        &mut codeword[..n],
+        &mut codeword[..graph.variables],
         &mut work[..size],
     ) {
-        return Judged::Admitted;
+        return Ok(());
     }
-    Judged::Refused(Refusal::NoCodeword)
+    Err(Refusal::NoCodeword)
 }

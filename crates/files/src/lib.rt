@@ -2,7 +2,7 @@
 // every loop ends.
 #![tactic(auto)]
 
-ghost use Rattle.std.specs.Prelude.{◌≡◌, ◌≢◌, ◌<◌, length, take, false};
+ghost use Rattle.std.specs.Prelude.{◌≡◌, ◌<◌, length, take, false, IfSome};
 ghost use Rattle.std.specs.Io.KnownBytes.{Appends, Consumes, IsAtEnd};
 ghost use Rattle.files.specs.Counts.{IsPrefixLen};
 
@@ -10,7 +10,7 @@ use std::io::{ErrorKind, Read, Write};
 
 const REPEATS: usize = 1000;
 
-// What was read: how many bytes, and whether a read failed.
+// What was read: how many bytes, and whether a read failed. A failed reading has a count too, so the flag stands beside it.
 #[derive(Clone, Copy)]
 pub struct Reading {
     pub count: usize,
@@ -53,14 +53,18 @@ pub fn read_front<R: Read>(reader: &mut R, buf: &mut [u8]) -> Reading
     }
 }
 
-// The bytes of a reader at the front of buf, as far as both go: how many, none where a read fails.
-pub fn read_whole<R: Read>(reader: &mut R, buf: &mut [u8]) -> usize
-    ensures within { IsPrefixLen result buf.new }
-    ensures bytes { result ≢ 0 → Consumes (R.remaining reader.old) (R.remaining reader.new) (take result buf.new) }
-    ensures end { result ≢ 0 → result < length buf.new → IsAtEnd (R.remaining reader.new) }
+// The bytes of a reader at the front of buf, as far as both go: how many, unless a read fails.
+pub fn read_whole<R: Read>(reader: &mut R, buf: &mut [u8]) -> Option<usize>
+    ensures within { IfSome result (λ count. IsPrefixLen count buf.new) }
+    ensures bytes { IfSome result (λ count. Consumes (R.remaining reader.old) (R.remaining reader.new) (take count buf.new)) }
+    ensures end { IfSome result (λ count. count < length buf.new → IsAtEnd (R.remaining reader.new)) }
 {
     let reading = read_front(reader, buf);
-    if reading.failed { 0 } else { reading.count }
+    if reading.failed {
+        None
+    } else {
+        Some(reading.count)
+    }
 }
 
 // Writes a text: how many of its bytes were taken, fewer than all where a write fails or takes none.

@@ -11,7 +11,7 @@ fn read_file(rt: &impl Files, path: &str, buf: &mut [u8]) -> usize
     ensures { IsPrefixLen result buf.new }
 {
     match fs::open(rt, path) {
-        Ok(mut file) => files::read_whole(&mut file, buf),
+        Ok(mut file) => files::read_whole(&mut file, buf).unwrap_or(0),
         Err(_) => 0,
     }
 }
@@ -29,7 +29,7 @@ fn main(rt: HostRuntime) {
     let mut run = [0u8; run_text::LARGEST_INPUT + 1];
     let mut out = [0u8; printing::LONGEST];
     let n = read_file(&rt, "code.txt", &mut sheet);
-    let k = files::read_whole(&mut rt.stdin(), &mut run);
+    let k = files::read_whole(&mut rt.stdin(), &mut run).unwrap_or(0);
     let length = program::answer(&sheet[..n], &run[..k], &mut out);
     write_answer(rt, &out[..length]);
 }

@@ -1,4 +1,5 @@
 -- The check of a graph with its list of degrees, and how it stands to the five alone.
+use Rattle.std.specs.Prelude.{Ok, Err}
 use mathlib.Core.Path.{◌≡◌, refl, sym, ap, ◌∙◌}
 use mathlib.Core.List.{List, ◌++◌}
 use Prim.Native.Nat.{ℕ, ◌*◌, ◌^◌, ◌≤◌, ◌<◌}
@@ -7,9 +8,7 @@ use borrow.Author.Tests.{le-leb, lt-leb}
 use lib.Dec.{eqb}
 use lib.ListN.{length, drop}
 use Rattle.rules.specs.Graphs.{Graph, Limits, AdmittedWithin, variable_degree}
-use Rattle.refusals.specs.Refusals.{or_else}
-use Rattle.refusals.specs.declared.Judged.{Judged}
-use Rattle.refusals.specs.declared.Judged.TheVariants.{Admitted, Refused}
+use Rattle.refusals.specs.Refusals.{or_else, Judged}
 use Rattle.refusals.specs.declared.Refusal.{Refusal}
 use Rattle.refusals.specs.declared.Refusal.TheVariants.{Buffer}
 use Rattle.refusals.proofs.Judging.{or_else_left, or_else_right, or_else_both}
@@ -26,13 +25,13 @@ use Rattle.graphs.proofs.Meaning.{graph_admitted}
 
 -- nothing is refused before 6 and 5
 pub record Shaped (L : Limits) (G : Graph) : Type 0 where
-  pub counts : counts_judged L G ≡ Admitted
-  pub starts : starts_judged G ≡ Admitted
-  pub columns : columns_judged G ≡ Admitted
-  pub rows : rows_judged G ≡ Admitted
+  pub counts : counts_judged L G ≡ Ok tt
+  pub starts : starts_judged G ≡ Ok tt
+  pub columns : columns_judged G ≡ Ok tt
+  pub rows : rows_judged G ≡ Ok tt
 
 module _ {L : Limits} (G : Graph) where
-  pub shape_told : shape_judged L G ≡ Admitted → Shaped L G
+  pub shape_told : shape_judged L G ≡ Ok tt → Shaped L G
   unfolding shape_judged
   shape_told h =
       let after_counts = or_else_right (counts_judged L G) _ h in
@@ -47,20 +46,20 @@ module _ {L : Limits} (G : Graph) where
   -- ---- 5, where it ends
 
   module _ {old now : List ℕ} (counted : now ≡ table 4 (variable_degree G) G.variables ++ drop (4 * G.variables) old) where
-    pub judges_refused : {r : Refusal} → check_degrees_judged L G ≡ Refused r → Judges L G (Refused r) old now
+    pub judges_refused : {r : Refusal} → check_degrees_judged L G ≡ Err r → Judges L G (Err r) old now
     judges_refused h = record { answer = sym (rw h); degrees = counted }
 
-    pub judges_last : {r : Judged} → check_degrees_judged L G ≡ Admitted → r ≡ variable_degrees_judged L G → Judges L G r old now
+    pub judges_last : {r : Judged} → check_degrees_judged L G ≡ Ok tt → r ≡ variable_degrees_judged L G → Judges L G r old now
     judges_last h q = record { answer = q ∙ sym (rw h); degrees = counted }
 
   -- ---- the check, where it ends
 
-  pub checks_refused : (old : List ℕ) {r : Refusal} → shape_judged L G ≡ Refused r → Checks L G (Refused r) old old
+  pub checks_refused : (old : List ℕ) {r : Refusal} → shape_judged L G ≡ Err r → Checks L G (Err r) old old
   unfolding countable graph_judged_in
   checks_refused old h = record { answer = sym (rw h); degrees = sym (rw h) }
 
-  module _ (old : List ℕ) (shape : shape_judged L G ≡ Admitted) where
-    pub checks_short : length old < 4 * G.variables → Checks L G (Refused Buffer) old old
+  module _ (old : List ℕ) (shape : shape_judged L G ≡ Ok tt) where
+    pub checks_short : length old < 4 * G.variables → Checks L G (Err Buffer) old old
     unfolding countable graph_judged_in
     checks_short l =
         let short = lt-leb (4 * G.variables) (length old) l in
@@ -94,22 +93,22 @@ variables_off L G old e h p q = variables_alike L p q (λ v l. degree_at_lem G v
 
 -- ---- beside the five alone
 
-none_between : (a b : Judged) → or_else (or_else a Admitted) b ≡ or_else a b
-none_between (Refused _) b = refl
-none_between Admitted b = refl
+none_between : (a b : Judged) → or_else (or_else a (Ok tt)) b ≡ or_else a b
+none_between (Err _) b = refl
+none_between (Ok _) b = refl
 
 pub lent_alike : LentAlike
 unfolding graph_judged countable graph_judged_in
 lent_alike L G d l = rw (le-leb (4 * G.variables) d l) (none_between (shape_judged L G) (degrees_judged L G))
 
 -- refused by none: the graph is admitted
-pub lent_admitted : {L : Limits} (G : Graph) (d : ℕ) → graph_judged_in L G d ≡ Admitted → AdmittedWithin L G
+pub lent_admitted : {L : Limits} (G : Graph) (d : ℕ) → graph_judged_in L G d ≡ Ok tt → AdmittedWithin L G
 unfolding graph_judged countable graph_judged_in
 lent_admitted {L} G d h =
     graph_admitted G (or_else_both (or_else_left (shape_judged L G) _ (or_else_left (countable L G d) _ h)) (or_else_right (countable L G d) _ h))
 
 -- .. and the list holds the degrees
-pub lent_counted : (L : Limits) (G : Graph) (d : ℕ) (old : List ℕ) {now : List ℕ} → graph_judged_in L G d ≡ Admitted → now ≡ degrees_in (countable L G d) G old
+pub lent_counted : (L : Limits) (G : Graph) (d : ℕ) (old : List ℕ) {now : List ℕ} → graph_judged_in L G d ≡ Ok tt → now ≡ degrees_in (countable L G d) G old
     → now ≡ table 4 (variable_degree G) G.variables ++ drop (4 * G.variables) old
 unfolding graph_judged_in
 lent_counted L G d old h e = e ∙ rw (or_else_left (countable L G d) _ h)

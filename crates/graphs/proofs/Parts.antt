@@ -1,4 +1,5 @@
 -- What each part of the check of a graph means where it refuses nothing: what it tells, and what it needs.
+use Rattle.std.specs.Prelude.{Ok}
 use mathlib.Core.Path.{◌≡◌, refl, ap, ◌∙◌}
 use mathlib.Core.Bool.{Bool, true, false, not, ◌&&◌, ◌||◌}
 use Prim.Native.Nat.{ℕ, zero, suc, ◌+◌, ◌-◌, ◌≤◌, ◌<◌}
@@ -7,9 +8,7 @@ use native.Mathlib.Omega.{arith}
 use borrow.Author.Tests.{ltb-true, leb-true, eqb-true, lt-ltb, le-leb, eq-eqb}
 use lib.Dec.{eqb, leb, ltb}
 use Rattle.rules.specs.Graphs.{Graph, Limits, fewest_variables, fewest_checks, least_check_degree, least_variable_degree, check_degree, variable_degree, between}
-use Rattle.refusals.specs.Refusals.{unless, or_else}
-use Rattle.refusals.specs.declared.Judged.{Judged}
-use Rattle.refusals.specs.declared.Judged.TheVariants as Judgement
+use Rattle.refusals.specs.Refusals.{unless, or_else, Judged}
 use Rattle.refusals.specs.declared.Refusal.TheVariants.{Count, Range, Order, Degree, Start}
 use Rattle.refusals.proofs.Judging.{or_else_left, or_else_right, unless_true, each_is, each_all, all_true, true_all}
 use Rattle.rules.proofs.Tests.{and_left, and_right, and_both}
@@ -42,7 +41,7 @@ pub record Counts (L : Limits) (G : Graph) : Type 0 where
   pub entries : G.entries ≤ L.entries
 
 module _ {L : Limits} (G : Graph) where
-  pub counts_told : counts_judged L G ≡ Judgement.Admitted → Counts L G
+  pub counts_told : counts_judged L G ≡ Ok tt → Counts L G
   unfolding counts_judged
   counts_told h =
       let n = between fewest_variables G.variables L.variables in
@@ -55,7 +54,7 @@ module _ {L : Limits} (G : Graph) where
         entries = leb-true G.entries L.entries (unless_true E (Count 0) (or_else_right (unless m (Count 0)) _ rest));
       }
 
-  pub counts_admitted : Counts L G → counts_judged L G ≡ Judgement.Admitted
+  pub counts_admitted : Counts L G → counts_judged L G ≡ Ok tt
   unfolding counts_judged
   counts_admitted k = rw (between_true k.variables, between_true k.checks, le-leb G.entries L.entries k.entries)
 
@@ -93,20 +92,20 @@ abbrev pub test_of_start : Graph → ℕ → Bool
 test_of_start G i = start_is_fit i G.checks G.entries (G.start (i - 1)) (G.start i)
 
 module _ (G : Graph) where
-  start_fits : starts_judged G ≡ Judgement.Admitted → (i : ℕ) → i < suc G.checks → Fits i G.checks G.entries (G.start (i - 1)) (G.start i)
+  start_fits : starts_judged G ≡ Ok tt → (i : ℕ) → i < suc G.checks → Fits i G.checks G.entries (G.start (i - 1)) (G.start i)
   unfolding starts_judged
   start_fits h i l =
       fits_told i G.checks G.entries (G.start (i - 1)) (G.start i)
       (all_true (test_of_start G) (λ i. Start i) (suc G.checks) h i l)
 
-  pub starts_told : starts_judged G ≡ Judgement.Admitted → Starts G
+  pub starts_told : starts_judged G ≡ Ok tt → Starts G
   starts_told h = record {
     begins = (start_fits h 0 (omega arith)).front refl;
     ends = (start_fits h G.checks (omega arith)).end refl;
     rises = λ i l. simp unary_clauses at (start_fits h (suc i) (omega arith)).above;
   }
 
-  pub starts_admitted : Starts G → starts_judged G ≡ Judgement.Admitted
+  pub starts_admitted : Starts G → starts_judged G ≡ Ok tt
   unfolding starts_judged
   starts_admitted s =
       true_all (test_of_start G) (λ i. Start i) (suc G.checks)
@@ -136,18 +135,18 @@ module _ (G : Graph) where
 
   -- ---- the columns and their order
 
-  pub columns_told : columns_judged G ≡ Judgement.Admitted → (e : ℕ) → e < G.entries → G.column e < G.variables
+  pub columns_told : columns_judged G ≡ Ok tt → (e : ℕ) → e < G.entries → G.column e < G.variables
   unfolding columns_judged
   columns_told h e l =
       ltb-true (G.column e) G.variables (all_true (λ e. ltb (G.column e) G.variables) (λ e. Range e) G.entries h e l)
 
-  pub columns_admitted : ((e : ℕ) → e < G.entries → G.column e < G.variables) → columns_judged G ≡ Judgement.Admitted
+  pub columns_admitted : ((e : ℕ) → e < G.entries → G.column e < G.variables) → columns_judged G ≡ Ok tt
   unfolding columns_judged
   columns_admitted h =
       true_all (λ e. ltb (G.column e) G.variables) (λ e. Range e) G.entries (λ e l. lt-ltb (G.column e) G.variables (h e l))
 
 module _ (column : ℕ → ℕ) (a b : ℕ) where
-  pub span_told : span_judged column a b ≡ Judgement.Admitted → (e : ℕ) → a ≤ e → suc e < b → column e < column (suc e)
+  pub span_told : span_judged column a b ≡ Ok tt → (e : ℕ) → a ≤ e → suc e < b → column e < column (suc e)
   unfolding span_judged
   span_told h e l u =
       let k = e - a in
@@ -156,7 +155,7 @@ module _ (column : ℕ → ℕ) (a b : ℕ) where
       let q : column (a + k + 1) ≡ column (suc e) = ap column (omega arith) in
       omega (arith, ltb-true (column (a + k)) (column (a + k + 1)) test)
 
-  pub span_admitted : ((e : ℕ) → a ≤ e → suc e < b → column e < column (suc e)) → span_judged column a b ≡ Judgement.Admitted
+  pub span_admitted : ((e : ℕ) → a ≤ e → suc e < b → column e < column (suc e)) → span_judged column a b ≡ Ok tt
   unfolding span_judged
   span_admitted h =
       true_all (λ k. ltb (column (a + k)) (column (a + k + 1))) (λ k. Order (a + k + 1)) (b - a - 1)
@@ -169,7 +168,7 @@ abbrev pub row_judged : Graph → ℕ → Judged
 row_judged G i = span_judged G.column (G.start i) (G.start (suc i))
 
 module _ (G : Graph) where
-  pub rows_told : rows_judged G ≡ Judgement.Admitted
+  pub rows_told : rows_judged G ≡ Ok tt
       → (i e : ℕ) → i < G.checks → G.start i ≤ e → suc e < G.start (suc i) → G.column e < G.column (suc e)
   unfolding rows_judged
   rows_told h i e l =
@@ -178,7 +177,7 @@ module _ (G : Graph) where
       e
 
   pub rows_admitted : ((i e : ℕ) → i < G.checks → G.start i ≤ e → suc e < G.start (suc i) → G.column e < G.column (suc e))
-      → rows_judged G ≡ Judgement.Admitted
+      → rows_judged G ≡ Ok tt
   unfolding rows_judged
   rows_admitted h =
       each_all (row_judged G) G.checks
@@ -194,7 +193,7 @@ abbrev pub variable_test : Limits → Graph → ℕ → Bool
 variable_test L G v = between least_variable_degree (variable_degree G v) L.variable_degree
 
 module _ (L : Limits) (G : Graph) where
-  pub check_degrees_told : check_degrees_judged L G ≡ Judgement.Admitted
+  pub check_degrees_told : check_degrees_judged L G ≡ Ok tt
       → (i : ℕ) → i < G.checks → (G.start i + least_check_degree ≤ G.start (suc i)) × (G.start (suc i) ≤ G.start i + L.check_degree)
   unfolding check_degrees_judged
   check_degrees_told h i l =
@@ -202,7 +201,7 @@ module _ (L : Limits) (G : Graph) where
       (omega (arith, d.0), omega (arith, d.1))
 
   pub check_degrees_admitted : ((i : ℕ) → i < G.checks → (G.start i + least_check_degree ≤ G.start (suc i)) × (G.start (suc i) ≤ G.start i + L.check_degree))
-      → check_degrees_judged L G ≡ Judgement.Admitted
+      → check_degrees_judged L G ≡ Ok tt
   unfolding check_degrees_judged
   check_degrees_admitted h =
       true_all (check_test L G) (λ i. Degree i) G.checks
@@ -210,7 +209,7 @@ module _ (L : Limits) (G : Graph) where
       between_true {low = least_check_degree} {x = check_degree G i} {high = L.check_degree}
       (omega (arith, (h i l).0), omega (arith, (h i l).1)))
 
-  pub variable_degrees_told : variable_degrees_judged L G ≡ Judgement.Admitted
+  pub variable_degrees_told : variable_degrees_judged L G ≡ Ok tt
       → (v : ℕ) → v < G.variables → (least_variable_degree ≤ variable_degree G v) × (variable_degree G v ≤ L.variable_degree)
   unfolding variable_degrees_judged
   variable_degrees_told h v l =
@@ -218,7 +217,7 @@ module _ (L : Limits) (G : Graph) where
       (all_true (variable_test L G) (λ v. Degree (G.checks + v)) G.variables h v l)
 
   pub variable_degrees_admitted : ((v : ℕ) → v < G.variables → (least_variable_degree ≤ variable_degree G v) × (variable_degree G v ≤ L.variable_degree))
-      → variable_degrees_judged L G ≡ Judgement.Admitted
+      → variable_degrees_judged L G ≡ Ok tt
   unfolding variable_degrees_judged
   variable_degrees_admitted h =
       true_all (variable_test L G) (λ v. Degree (G.checks + v)) G.variables

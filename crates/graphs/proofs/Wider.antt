@@ -1,16 +1,16 @@
 -- Under wider limits: a graph whose counts are within the narrower ones is judged alike.
+use Rattle.std.specs.Prelude.{Ok}
 use mathlib.Core.Path.{◌≡◌, refl, ap, ◌∙◌}
 use Prim.Native.Nat.{ℕ}
 use native.Mathlib.Omega.{arith}
 use Rattle.rules.specs.Graphs.{Graph, Limits, Wider, limits, program_limits}
-use Rattle.refusals.specs.declared.Judged.TheVariants as Judgement
 use Rattle.graphs.specs.Judging.{counts_judged, check_degrees_judged, variable_degrees_judged, shape_judged, graph_judged, graph_judged_in}
 use Rattle.graphs.specs.Calls.{WiderAlike, row_judgement, bits_judged, Old, AsBefore}
 use Rattle.graphs.proofs.Parts.{counts_told, counts_admitted}
 use Rattle.graphs.proofs.Lending.{lent_alike}
 
 module _ {L M : Limits} (w : Wider L M) (G : Graph) where
-  pub counts_wider : counts_judged L G ≡ Judgement.Admitted → counts_judged M G ≡ Judgement.Admitted
+  pub counts_wider : counts_judged L G ≡ Ok tt → counts_judged M G ≡ Ok tt
   counts_wider h =
       let k = counts_told {L = L} G h in
       counts_admitted {L = M} G (record {

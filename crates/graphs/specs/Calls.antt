@@ -1,23 +1,20 @@
 -- Document 01: 'Row of a check' and 'Count odd checks of given bits', and what the check of a graph means.
-use Rattle.std.specs.Prelude.{◌≡◌, ◌↔◌, List, [], ℕ, ◌*◌, ◌≤◌, eqb, leb, ltb, length, get_or, take, drop}
+use Rattle.std.specs.Prelude.{◌≡◌, ◌↔◌, List, [], ℕ, ◌*◌, ◌≤◌, eqb, leb, ltb, length, get_or, take, drop, Ok, Err, Result}
 use Rattle.rules.specs.Graphs.{Graph, Limits, Wider, limits, program_limits, AdmittedWithin, check_degree, unsatisfied}
-use Rattle.refusals.specs.Refusals.{unless, or_else, each}
-use Rattle.refusals.specs.declared.Judged.{Judged}
-use Rattle.refusals.specs.declared.Judged.TheVariants as Judgement
+use Rattle.refusals.specs.Refusals.{unless, or_else, each, Judged}
 use Rattle.refusals.specs.declared.Refusal.TheVariants.{Range, Length, Bit}
 use Rattle.words.specs.Roles.{wide, bit_of_byte}
 use Rattle.graphs.specs.Judging.{counts_judged, graph_judged, countable, graph_judged_in}
 use Rattle.graphs.specs.Degrees.{degrees_in}
-use Rattle.graphs.specs.declared.OddChecks.{OddChecks}
-use Rattle.graphs.specs.declared.OddChecks.TheVariants as Answer
+use Rattle.refusals.specs.declared.Refusal.{Refusal}
 
 -- Under any limits a graph is refused by none of the five exactly when it is admitted.
 abbrev pub JudgedRightly : Type 0
-JudgedRightly = (L : Limits) (G : Graph) → (graph_judged L G ≡ Judgement.Admitted) ↔ AdmittedWithin L G
+JudgedRightly = (L : Limits) (G : Graph) → (graph_judged L G ≡ Ok tt) ↔ AdmittedWithin L G
 
 -- A graph whose counts are within L is judged alike under wider limits.
 abbrev pub WiderAlike : Type 0
-WiderAlike = (L M : Limits) → Wider L M → (G : Graph) → counts_judged L G ≡ Judgement.Admitted → graph_judged M G ≡ graph_judged L G
+WiderAlike = (L M : Limits) → Wider L M → (G : Graph) → counts_judged L G ≡ Ok tt → graph_judged M G ≡ graph_judged L G
 
 -- 'Row of a check: the graph's ..; 3, a check number not below m (that number)', where g is what is found of the graph.
 unfoldable pub row_judgement : Judged → Graph → ℕ → Judged
@@ -26,8 +23,8 @@ row_judgement g G i = or_else g (unless (ltb i G.checks) (Range i))
 -- 'The columns of one check are handed back as that part of the caller's list; where the graph or the check number is refused the
 -- part is empty.' A column is `wide` bytes.
 abbrev pub part_of : Judged → Graph → List ℕ → ℕ → List ℕ
-part_of Judgement.Admitted G columns i = take (wide * check_degree G i) (drop (wide * G.start i) columns)
-part_of (Judgement.Refused r) G columns i = []
+part_of (Ok _) G columns i = take (wide * check_degree G i) (drop (wide * G.start i) columns)
+part_of (Err r) G columns i = []
 
 -- '15, a byte not 0 or 1 (first index).'
 unfoldable pub bytes_judged : List ℕ → Judged
@@ -39,10 +36,14 @@ bits_judged g G bits =
     or_else g
     (or_else (unless (eqb (length bits) G.variables) (Length 0)) (bytes_judged bits))
 
+-- The number of odd checks of given bits, or the refusal.
+abbrev pub OddChecks : Type 0
+OddChecks = Result ℕ Refusal
+
 -- The count, or the refusal.
 abbrev pub odd_answer : Judged → Graph → List ℕ → OddChecks
-odd_answer Judgement.Admitted G bits = Answer.Odd (unsatisfied G (bit_of_byte bits))
-odd_answer (Judgement.Refused r) G bits = Answer.Refused r
+odd_answer (Ok _) G bits = Ok (unsatisfied G (bit_of_byte bits))
+odd_answer (Err r) G bits = Err r
 
 -- ---- the calls, each with the list of degrees before and after
 
@@ -65,7 +66,7 @@ pub record CountsOdd (G : Graph) (bits : List ℕ) (r : OddChecks) (old now : Li
 
 -- Document 02, item 9: 'graphs within the old limits ..', with a list of d bytes that 'is long enough'.
 pub record Old (G : Graph) (d : ℕ) : Type 0 where
-  pub counts : counts_judged program_limits G ≡ Judgement.Admitted
+  pub counts : counts_judged program_limits G ≡ Ok tt
   pub enough : 4 * G.variables ≤ d
 
 -- '.. get the same answers as before': before, the five alone were found of a graph, at the old limits.

@@ -1,16 +1,15 @@
 -- Document 02, item 9: 'variable degrees are counted in a further lent list of n 32-bit numbers'.
-use Rattle.std.specs.Prelude.{◌≡◌, List, ◌++◌, ℕ, ◌*◌, ◌≤◌, length, drop}
+use Rattle.std.specs.Prelude.{◌≡◌, List, ◌++◌, ℕ, ◌*◌, ◌≤◌, length, drop, Ok, Err}
 use Rattle.rules.specs.Graphs.{Graph, Limits, variable_degree}
-use Rattle.refusals.specs.declared.Judged.{Judged}
-use Rattle.refusals.specs.declared.Judged.TheVariants as Judgement
+use Rattle.refusals.specs.Refusals.{Judged}
 use Rattle.words.specs.Words.{table}
 use Rattle.graphs.specs.Judging.{graph_judged, degrees_judged, countable, graph_judged_in}
 
 -- 'It holds the degrees after every call that came as far as 5, refused or not, and is unchanged otherwise.' Bytes past n numbers do not
 -- change.
 abbrev pub degrees_in : Judged → Graph → List ℕ → List ℕ
-degrees_in Judgement.Admitted G old = table 4 (variable_degree G) G.variables ++ drop (4 * G.variables) old
-degrees_in (Judgement.Refused r) G old = old
+degrees_in (Ok _) G old = table 4 (variable_degree G) G.variables ++ drop (4 * G.variables) old
+degrees_in (Err r) G old = old
 
 -- 'Check a graph': the answer r, and the list before and after.
 pub record Checks (L : Limits) (G : Graph) (r : Judged) (old now : List ℕ) : Type 0 where

@@ -1,8 +1,7 @@
 -- Document 01, 'Check a graph': the five refusals, each looked for over the whole input before the next; document 02, item 9: the list of degrees.
 use Rattle.std.specs.Prelude.{Bool, not, ◌&&◌, ◌||◌, ℕ, suc, ◌+◌, ◌*◌, ◌-◌, eqb, leb, ltb}
 use Rattle.rules.specs.Graphs.{Graph, Limits, fewest_variables, fewest_checks, least_check_degree, between, check_degree, variable_degree}
-use Rattle.refusals.specs.Refusals.{unless, or_else, each}
-use Rattle.refusals.specs.declared.Judged.{Judged}
+use Rattle.refusals.specs.Refusals.{unless, or_else, each, Judged}
 use Rattle.graphs.specs.Variables.{variables_judged}
 use Rattle.refusals.specs.declared.Refusal.TheVariants.{Count, Range, Order, Degree, Buffer, Start}
 

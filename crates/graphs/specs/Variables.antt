@@ -1,8 +1,7 @@
 -- Document 01, 'Check a graph', 5: the degrees of the variables, by a list of them.
 use Rattle.std.specs.Prelude.{ℕ, ◌+◌}
 use Rattle.rules.specs.Graphs.{Limits, least_variable_degree, between}
-use Rattle.refusals.specs.Refusals.{unless, each}
-use Rattle.refusals.specs.declared.Judged.{Judged}
+use Rattle.refusals.specs.Refusals.{unless, each, Judged}
 use Rattle.refusals.specs.declared.Refusal.TheVariants.{Degree}
 
 -- '5, a degree outside its limits (m + lowest variable)': v has `degree v` entries, and m checks stand before the n variables.

@@ -1,11 +1,2 @@
-// The answer of a count of odd checks. What it means is in specs/.
+// What the calls on a graph promise is in specs/.
 #![tactic(auto)]
-
-use refusals::Refusal;
-
-// The number of odd checks of given bits, or the refusal.
-#[derive(Drop)]
-pub enum OddChecks {
-    Odd(usize),
-    Refused(Refusal),
-}

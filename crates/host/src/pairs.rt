@@ -1,13 +1,13 @@
-// The entries for two heads with one allowance.
+// The calls for two heads with one allowance.
 ghost use Rattle.std.specs.Prelude.{length};
-ghost use Rattle.words.specs.Roles.{graph_of};
+ghost use Rattle.words.specs.Roles.{graph_lent};
 ghost use Rattle.decoding.specs.Frames.{memory};
-ghost use Rattle.decoding.specs.Pairing.Pairs.{heads};
-ghost use Rattle.interface.specs.Packing.{scaling_of, asked_of, TellsPlace};
+ghost use Rattle.decoding.specs.Pairing.Pairs.{heads_lent};
+ghost use Rattle.interface.specs.Packing.{TellsPlace};
 ghost use Rattle.interface.specs.Pairs.{pair_place, HostDecodesPair};
 
-use decoding::Room;
-use settings::Parameters;
+use decoding::{Heads, Room};
+use words::Graph;
 
 // The length of the list of reports.
 const REPORTS: usize = 16;
@@ -15,34 +15,7 @@ const REPORTS: usize = 16;
 // Decodes the frames of two heads. The answer's lowest byte is the refusal's number, 0 where nothing is refused, and the next says whose it is: 1 and 2 for
 // the heads, 0 for neither's.
 pub fn frame_decode_pair(
-    n: usize,
-    starts: &[u8],
-    columns: &[u8],
-    allowance: u32,
-    first_values: &[u8],
-    first_kind: u32,
-    first_gain: f32,
-    first_variance: f32,
-    first_channel: u32,
-    first_message: u32,
-    first_phi_s: u32,
-    first_phi_a: u32,
-    first_phi_0: u32,
-    first_limit: u32,
-    first_lift_from: u32,
-    first_lift_to: u32,
-    second_values: &[u8],
-    second_kind: u32,
-    second_gain: f32,
-    second_variance: f32,
-    second_channel: u32,
-    second_message: u32,
-    second_phi_s: u32,
-    second_phi_a: u32,
-    second_phi_0: u32,
-    second_limit: u32,
-    second_lift_from: u32,
-    second_lift_to: u32,
+    heads: Heads<'_>,
     degrees: &mut [u8],
     first_levels: &mut [u8],
     first_variable_messages: &mut [u8],
@@ -56,32 +29,8 @@ pub fn frame_decode_pair(
     second_bits: &mut [u8],
     reports: &mut [u8],
 ) -> u64
-    ensures { HostDecodesPair (heads n starts.now columns.now allowance first_values.now (asked_of (scaling_of first_kind first_gain first_variance) first_channel first_message first_phi_s first_phi_a first_phi_0 first_limit first_lift_from first_lift_to) second_values.now (asked_of (scaling_of second_kind second_gain second_variance) second_channel second_message second_phi_s second_phi_a second_phi_0 second_limit second_lift_from second_lift_to)) (memory first_levels.old first_variable_messages.old first_check_messages.old first_sums.old first_bits.old) (memory first_levels.new first_variable_messages.new first_check_messages.new first_sums.new first_bits.new) (memory second_levels.old second_variable_messages.old second_check_messages.old second_sums.old second_bits.old) (memory second_levels.new second_variable_messages.new second_check_messages.new second_sums.new second_bits.new) degrees.old degrees.new reports.old reports.new result }
+    ensures { HostDecodesPair (heads_lent heads.entry) (memory first_levels.old first_variable_messages.old first_check_messages.old first_sums.old first_bits.old) (memory first_levels.new first_variable_messages.new first_check_messages.new first_sums.new first_bits.new) (memory second_levels.old second_variable_messages.old second_check_messages.old second_sums.old second_bits.old) (memory second_levels.new second_variable_messages.new second_check_messages.new second_sums.new second_bits.new) degrees.old degrees.new reports.old reports.new result }
 {
-    let first_scaling = packing::scaling_of(first_kind, first_gain, first_variance);
-    let first_asked = Parameters {
-        scaling: first_scaling,
-        channel: first_channel,
-        message: first_message,
-        phi_s: first_phi_s,
-        phi_a: first_phi_a,
-        phi_0: first_phi_0,
-        limit: first_limit,
-        lift_from: first_lift_from,
-        lift_to: first_lift_to,
-    };
-    let second_scaling = packing::scaling_of(second_kind, second_gain, second_variance);
-    let second_asked = Parameters {
-        scaling: second_scaling,
-        channel: second_channel,
-        message: second_message,
-        phi_s: second_phi_s,
-        phi_a: second_phi_a,
-        phi_0: second_phi_0,
-        limit: second_limit,
-        lift_from: second_lift_from,
-        lift_to: second_lift_to,
-    };
     if reports.len() < REPORTS {
         let first_room = Room {
             levels: first_levels.len(),
@@ -97,29 +46,10 @@ pub fn frame_decode_pair(
             sums: second_sums.len(),
             bits: second_bits.len(),
         };
-        return reporting::refuse_short(
-            n,
-            starts,
-            columns,
-            allowance,
-            first_values,
-            first_asked,
-            second_values,
-            second_asked,
-            degrees,
-            first_room,
-            second_room,
-        );
+        return reporting::refuse_short(heads, degrees, first_room, second_room);
     }
     reporting::decode_reported(
-        n,
-        starts,
-        columns,
-        allowance,
-        first_values,
-        first_asked,
-        second_values,
-        second_asked,
+        heads,
         degrees,
         first_levels,
         first_variable_messages,
@@ -138,19 +68,17 @@ pub fn frame_decode_pair(
 // The place of what `frame_decode_pair` refuses of this graph, with this list of degrees, and of the values of both heads, where it answered `answer`: that of
 // the head that is refused.
 pub fn frame_decode_pair_place(
-    n: usize,
-    starts: &[u8],
-    columns: &[u8],
+    graph: Graph<'_>,
     first_values: &[u8],
     second_values: &[u8],
     answer: u64,
     degrees: &mut [u8],
 ) -> usize
-    ensures { TellsPlace (graph_of n starts.now columns.now) (pair_place (graph_of n starts.now columns.now) first_values.now second_values.now (length degrees.old) answer) degrees.old degrees.new result }
+    ensures { TellsPlace (graph_lent graph.entry) (pair_place (graph_lent graph.entry) first_values.now second_values.now (length degrees.old) answer) degrees.old degrees.new result }
 {
     let refusal = (answer % 256) as u32;
     if answer / 256 % 256 == 2 {
-        return crate::frame_decode_place(n, starts, columns, second_values, refusal, degrees);
+        return crate::frame_decode_place(graph, second_values, refusal, degrees);
     }
-    crate::frame_decode_place(n, starts, columns, first_values, refusal, degrees)
+    crate::frame_decode_place(graph, first_values, refusal, degrees)
 }

@@ -2,6 +2,8 @@
 ghost use Rattle.words.specs.Roles.{graph_of};
 ghost use Rattle.interface.specs.Encoding.{HostEncodes, TellsEncodePlace};
 
+use words::Graph;
+
 #[unsafe(no_mangle)]
 pub extern "C" fn frame_encode(
     n: usize,
@@ -15,9 +17,12 @@ pub extern "C" fn frame_encode(
 ) -> u64
     ensures { HostEncodes (graph_of n starts.now columns.now) positions.now given.now degrees.old degrees.new codeword.old codeword.new work.old work.new result }
 {
-    host::encoding::frame_encode(
-        n, starts, columns, positions, given, degrees, codeword, work,
-    )
+    let graph = Graph {
+        variables: n,
+        starts,
+        columns,
+    };
+    host::encoding::frame_encode(graph, positions, given, degrees, codeword, work)
 }
 
 #[unsafe(no_mangle)]
@@ -31,5 +36,10 @@ pub extern "C" fn frame_encode_place(
 ) -> usize
     ensures { TellsEncodePlace (graph_of n starts.now columns.now) positions.now given.now degrees.old degrees.new result }
 {
-    host::encoding::frame_encode_place(n, starts, columns, positions, given, degrees)
+    let graph = Graph {
+        variables: n,
+        starts,
+        columns,
+    };
+    host::encoding::frame_encode_place(graph, positions, given, degrees)
 }

@@ -6,6 +6,10 @@ ghost use Rattle.words.specs.Roles.{graph_of};
 ghost use Rattle.decoding.specs.Frames.{frame, memory};
 ghost use Rattle.interface.specs.Packing.{scaling_of, asked_of, decode_place, HostDecodes, TellsPlace};
 
+use decoding::Frame;
+use settings::Parameters;
+use words::Graph;
+
 mod sheets; // code sheets
 mod encoding; // the writing side
 mod runs; // a run that pauses
@@ -37,14 +41,13 @@ pub extern "C" fn frame_decode(
 ) -> u64
     ensures { HostDecodes (frame n starts.now columns.now values.now (asked_of (scaling_of kind gain variance) channel message phi_s phi_a phi_0 limit lift_from lift_to)) (memory levels.old variable_messages.old check_messages.old sums.old bits.old) (memory levels.new variable_messages.new check_messages.new sums.new bits.new) degrees.old degrees.new result }
 {
-    host::frame_decode(
-        n,
+    let graph = Graph {
+        variables: n,
         starts,
         columns,
-        values,
-        kind,
-        gain,
-        variance,
+    };
+    let asked = Parameters {
+        scaling: packing::scaling_of(kind, gain, variance),
         channel,
         message,
         phi_s,
@@ -53,6 +56,14 @@ pub extern "C" fn frame_decode(
         limit,
         lift_from,
         lift_to,
+    };
+    let frame = Frame {
+        graph,
+        values,
+        asked,
+    };
+    host::frame_decode(
+        frame,
         degrees,
         levels,
         variable_messages,
@@ -73,5 +84,10 @@ pub extern "C" fn frame_decode_place(
 ) -> usize
     ensures { TellsPlace (graph_of n starts.now columns.now) (decode_place (graph_of n starts.now columns.now) values.now (length degrees.old) refusal) degrees.old degrees.new result }
 {
-    host::frame_decode_place(n, starts, columns, values, refusal, degrees)
+    let graph = Graph {
+        variables: n,
+        starts,
+        columns,
+    };
+    host::frame_decode_place(graph, values, refusal, degrees)
 }

@@ -8,6 +8,11 @@ ghost use Rattle.pausing.specs.Pausing.{asked};
 ghost use Rattle.interface.specs.Packing.{scaling_of, asked_of, place_of, decode_place, TellsPlace};
 ghost use Rattle.interface.specs.Runs.{HostBegins, HostAdvances, unscaled_of};
 
+use decoding::Frame;
+use pausing::Unscaled;
+use settings::Parameters;
+use words::Graph;
+
 #[unsafe(no_mangle)]
 pub extern "C" fn frame_begin(
     n: usize,
@@ -34,14 +39,13 @@ pub extern "C" fn frame_begin(
 ) -> u64
     ensures { HostBegins (frame n starts.now columns.now values.now (asked_of (scaling_of kind gain variance) channel message phi_s phi_a phi_0 limit lift_from lift_to)) (memory levels.old variable_messages.old check_messages.old sums.old bits.old) (memory levels.new variable_messages.new check_messages.new sums.new bits.new) degrees.old degrees.new result }
 {
-    host::runs::frame_begin(
-        n,
+    let graph = Graph {
+        variables: n,
         starts,
         columns,
-        values,
-        kind,
-        gain,
-        variance,
+    };
+    let asked = Parameters {
+        scaling: packing::scaling_of(kind, gain, variance),
         channel,
         message,
         phi_s,
@@ -50,6 +54,14 @@ pub extern "C" fn frame_begin(
         limit,
         lift_from,
         lift_to,
+    };
+    let frame = Frame {
+        graph,
+        values,
+        asked,
+    };
+    host::runs::frame_begin(
+        frame,
         degrees,
         levels,
         variable_messages,
@@ -70,7 +82,12 @@ pub extern "C" fn frame_begin_place(
 ) -> usize
     ensures { TellsPlace (graph_of n starts.now columns.now) (decode_place (graph_of n starts.now columns.now) values.now (length degrees.old) refusal) degrees.old degrees.new result }
 {
-    host::runs::frame_begin_place(n, starts, columns, values, refusal, degrees)
+    let graph = Graph {
+        variables: n,
+        starts,
+        columns,
+    };
+    host::runs::frame_begin_place(graph, values, refusal, degrees)
 }
 
 #[unsafe(no_mangle)]
@@ -97,11 +114,12 @@ pub extern "C" fn frame_advance(
 ) -> u64
     ensures { HostAdvances (asked n starts.now columns.now (unscaled_of channel message phi_s phi_a phi_0 limit lift_from lift_to) count) «record» (memory levels.now variable_messages.old check_messages.old sums.old bits.old) (memory levels.now variable_messages.new check_messages.new sums.new bits.new) degrees.old degrees.new result }
 {
-    host::runs::frame_advance(
-        record,
-        n,
+    let graph = Graph {
+        variables: n,
         starts,
         columns,
+    };
+    let settings = Unscaled {
         channel,
         message,
         phi_s,
@@ -110,6 +128,11 @@ pub extern "C" fn frame_advance(
         limit,
         lift_from,
         lift_to,
+    };
+    host::runs::frame_advance(
+        record,
+        graph,
+        settings,
         count,
         degrees,
         levels,
@@ -129,5 +152,10 @@ pub extern "C" fn frame_advance_place(
 ) -> usize
     ensures { TellsPlace (graph_of n starts.now columns.now) (place_of (graph_judged_in limits (graph_of n starts.now columns.now) (length degrees.old))) degrees.old degrees.new result }
 {
-    host::runs::frame_advance_place(n, starts, columns, degrees)
+    let graph = Graph {
+        variables: n,
+        starts,
+        columns,
+    };
+    host::runs::frame_advance_place(graph, degrees)
 }

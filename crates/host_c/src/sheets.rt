@@ -6,6 +6,9 @@ ghost use Rattle.block_sheets.specs.Writer.Writing.{blocks_given};
 ghost use Rattle.interface.specs.Packing.{place_of, HostReads, HostWrites, TellsPlace, TellsLine};
 ghost use Rattle.interface.specs.Blocks.{HostReadsBlocks, TellsBlocksLine, HostWritesBlocks, TellsBlocksPlace};
 
+use block_sheets::Blocks;
+use words::Graph;
+
 #[unsafe(no_mangle)]
 pub extern "C" fn frame_read_sheet(
     text: &[u8],
@@ -40,7 +43,12 @@ pub extern "C" fn frame_write_sheet(
 ) -> u64
     ensures { HostWrites (graph_of n starts.now columns.now) degrees.old degrees.new text.old text.new result }
 {
-    host::sheets::frame_write_sheet(n, starts, columns, degrees, text)
+    let graph = Graph {
+        variables: n,
+        starts,
+        columns,
+    };
+    host::sheets::frame_write_sheet(graph, degrees, text)
 }
 
 #[unsafe(no_mangle)]
@@ -53,7 +61,12 @@ pub extern "C" fn frame_write_sheet_place(
 ) -> usize
     ensures { TellsPlace (graph_of n starts.now columns.now) (place_of (write_finds (graph_of n starts.now columns.now) (length degrees.old) text)) degrees.old degrees.new result }
 {
-    host::sheets::frame_write_sheet_place(n, starts, columns, degrees, text)
+    let graph = Graph {
+        variables: n,
+        starts,
+        columns,
+    };
+    host::sheets::frame_write_sheet_place(graph, degrees, text)
 }
 
 #[unsafe(no_mangle)]
@@ -91,7 +104,13 @@ pub extern "C" fn frame_write_blocks(
 ) -> u64
     ensures { HostWritesBlocks (blocks_given size rows columns entries.now) degrees.old degrees.new text.old text.new result }
 {
-    host::sheets::frame_write_blocks(size, rows, columns, entries, degrees, text)
+    let blocks = Blocks {
+        size,
+        rows,
+        columns,
+        entries,
+    };
+    host::sheets::frame_write_blocks(blocks, degrees, text)
 }
 
 #[unsafe(no_mangle)]
@@ -105,5 +124,11 @@ pub extern "C" fn frame_write_blocks_place(
 ) -> usize
     ensures { TellsBlocksPlace (blocks_given size rows columns entries.now) degrees.old degrees.new text result }
 {
-    host::sheets::frame_write_blocks_place(size, rows, columns, entries, degrees, text)
+    let blocks = Blocks {
+        size,
+        rows,
+        columns,
+        entries,
+    };
+    host::sheets::frame_write_blocks_place(blocks, degrees, text)
 }

@@ -1,16 +1,15 @@
 -- The same for block sheets.
+use Rattle.std.specs.Prelude.{Ok, Err}
 use mathlib.Core.Path.{◌≡◌, refl, ap, ◌∙◌}
 use mathlib.Core.List.{List}
 use Prim.Native.Nat.{ℕ}
 use native.Mathlib.Nat.{mul-le-mul_right}
 use native.Mathlib.Omega.{arith}
 use lib.ListN.{length}
-use Rattle.refusals.specs.declared.Judged.{Judged}
-use Rattle.refusals.specs.declared.Judged.TheVariants.{Admitted, Refused}
+use Rattle.refusals.specs.Refusals.{Judged}
 use Rattle.refusals.proofs.Judging.{or_else_left}
-use Rattle.code_sheets.specs.Reader.Reading.{Reading, turned, graph, answer_of}
-use Rattle.code_sheets.specs.declared.Sheet.{Sheet}
-use Rattle.code_sheets.specs.declared.Written.{Written}
+use Rattle.code_sheets.specs.Reader.Reading.{Reading, turned, graph, answer_of, Sheet}
+use Rattle.code_sheets.specs.Writer.Writing.{Written}
 use Rattle.block_sheets.specs.Text.Blocks.{Blocks}
 use Rattle.block_sheets.specs.Reader.Reading.{block_read_in, BlocksReadInto, BlocksJudgedInto}
 use Rattle.block_sheets.proofs.Reader.Accepting.{blocks_accepted}
@@ -45,8 +44,8 @@ pub blocks_written_small : (b : Blocks) (d room : ℕ) → SmallWritten (blocks_
 blocks_written_small b d room = go (blocks_write_finds b d room) refl
   where
     go : (j : Judged) → blocks_write_finds b d room ≡ j → SmallWritten (blocks_write_answer j b)
-    go (Refused r) e = omega arith
-    go Admitted e =
+    go (Err r) e = omega arith
+    go (Ok _) e =
         let v = (lines_are b (or_else_left (lines_judged (found b)) _ e)).1 in
         omega (arith, blocks_short b v, v.few, mul-le-mul_right {m = 1} {n = b.size} (length b.entries) v.ordered.some)
 

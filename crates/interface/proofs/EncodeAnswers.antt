@@ -1,4 +1,5 @@
 -- What the companion of the entry for the writing side promises, and that it tells the place of what that refuses.
+use Rattle.std.specs.Prelude.{Ok, Err}
 use mathlib.Core.Path.{◌≡◌, refl, sym, ap, ◌∙◌}
 use mathlib.Core.Bool.{Bool, true, false}
 use mathlib.Core.List.{List}
@@ -6,9 +7,7 @@ use Prim.Native.Nat.{ℕ}
 use lib.Dec.{leb}
 use lib.ListN.{length}
 use Rattle.rules.specs.Graphs.{Graph}
-use Rattle.refusals.specs.Refusals.{paper, unless, or_else}
-use Rattle.refusals.specs.declared.Judged.{Judged}
-use Rattle.refusals.specs.declared.Judged.TheVariants.{Admitted, Refused}
+use Rattle.refusals.specs.Refusals.{paper, unless, or_else, Judged}
 use Rattle.refusals.specs.declared.Refusal.{Refusal}
 use Rattle.refusals.specs.declared.Refusal.TheVariants.{Buffer}
 use Rattle.codewords.specs.Choosing.{Given}
@@ -33,12 +32,12 @@ room_placeless G c w = go (leb G.variables c) (leb (work_bytes G) w)
 
 -- so has no codeword
 answer_placeless : (j : Judged) (G : Graph) (g : Given) (c c' : List ℕ) → Answers j G g c c' → place_of j ≡ 0
-answer_placeless Admitted G g c c' a = refl
-answer_placeless (Refused q) G g c c' a = ap (λ (x : Refusal). (paper x).place) a.0
+answer_placeless (Ok _) G g c c' a = refl
+answer_placeless (Err q) G g c c' a = ap (λ (x : Refusal). (paper x).place) a.0
 
 in_order : (i r : Judged) → place_of r ≡ 0 → place_of (or_else i r) ≡ place_of i
-in_order Admitted r h = h
-in_order (Refused q) r h = refl
+in_order (Ok _) r h = h
+in_order (Err q) r h = refl
 
 pub encode_places : EncodePlaces
 unfolding encode_judged
@@ -52,5 +51,5 @@ encode_places G positions given j d d' c c' w w' e =
     r = room_judged G (length c) (length w)
 
     go : (k : Judged) → encode_judged G positions given (length d) (length c) (length w) ≡ k → place_of k ≡ place_of j
-    go (Refused q) h = sym (ap place_of (e.refused q h).0)
-    go Admitted h = sym (answer_placeless j G (given_of positions given) c c' (e.accepted h).0)
+    go (Err q) h = sym (ap place_of (e.refused q h).0)
+    go (Ok _) h = sym (answer_placeless j G (given_of positions given) c c' (e.accepted h).0)

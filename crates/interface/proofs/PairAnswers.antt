@@ -1,4 +1,5 @@
 -- The answers of the entry for two heads, and the place that its companion gives.
+use Rattle.std.specs.Prelude.{Ok, Err}
 use mathlib.Core.Path.{◌≡◌, refl, sym, ap, ap₂, ◌∙◌, subst}
 use mathlib.Core.Bool.{Bool, true, false, cond}
 use mathlib.Core.List.{List, ◌++◌}
@@ -12,9 +13,7 @@ use lib.Seq.{take_at, drop_at, drop-drop}
 use Rattle.rules.specs.Graphs as Graphs
 use Rattle.rules.specs.Graphs.{limits, between}
 use Rattle.rules.specs.Sequence.{stop, report}
-use Rattle.refusals.specs.Refusals.{paper, unless}
-use Rattle.refusals.specs.declared.Judged.{Judged}
-use Rattle.refusals.specs.declared.Judged.TheVariants as Judgement
+use Rattle.refusals.specs.Refusals.{paper, unless, Judged}
 use Rattle.refusals.specs.declared.Refusal.{Refusal}
 use Rattle.refusals.specs.declared.Refusal.TheVariants as Refusals
 use Rattle.rules.specs.declared.Report.{Report}
@@ -25,19 +24,13 @@ use Rattle.graphs.specs.Judging.{graph_judged_in}
 use Rattle.graphs.proofs.Lending.{lent_admitted}
 use Rattle.settings.specs.declared.Scaling.{Scaling}
 use Rattle.decoding.specs.declared.Room.{Room}
-use Rattle.decoding.specs.declared.Decoded.TheVariants.{Ran}
 use Rattle.decoding.specs.Decoding.{Frame, Memory, room_of, graph, scheme, decode_finds, decoded}
 use Rattle.decoding.proofs.Accepting.{frame_passed, asked_told, memory_told}
 use Rattle.decoding.specs.declared.Party.{Party}
 use Rattle.decoding.specs.declared.Party.TheVariants.{First, Second, Pair}
-use Rattle.decoding.specs.declared.Paired.{Paired}
-use Rattle.decoding.specs.declared.Paired.TheVariants as Answer
-use Rattle.decoding.specs.declared.CheckedPair.{CheckedPair}
-use Rattle.decoding.specs.declared.CheckedPair.TheVariants as Pairs
+use Rattle.decoding.specs.Pairing.Pairs.{Paired, CheckedPair, Heads, alone, report_with, Found, admitted, refused, found_of, allowance_judged, graph_of_both, first_frame, second_frame, pair_finds, first_report, second_report, AcceptsPair, DecodesPair}
 use Rattle.decoding.specs.Pairing.Grants.{grant, half_up, half_down}
-use Rattle.decoding.specs.Pairing.Pairs.{Heads, alone, report_with, Found, admitted, refused, found_of, allowance_judged, graph_of_both, first_frame, second_frame, pair_finds, first_report, second_report, AcceptsPair, DecodesPair}
-use Rattle.decoding.proofs.Pairing.Finding.{all_told}
-use Rattle.decoding.proofs.Pairing.Finding.{found_refused}
+use Rattle.decoding.proofs.Pairing.Finding.{all_told, found_refused}
 use Rattle.decoding.proofs.Pairing.Promises.{ran_told, refused_told, taken_small}
 use Rattle.settings.specs.Settings.{settings}
 use Rattle.interface.specs.Packing.{Small, pack_decoded, number_of, place_of, places_judged, decode_place, TellsPlace}
@@ -74,14 +67,14 @@ two_numbers l x y h =
 
 -- ---- numbers that fit their places
 
-report_small : (F : Frame) (g : ℕ) → Graphs.Admitted (graph F) → g ≤ 255 → Small (Ran (report_with F g))
+report_small : (F : Frame) (g : ℕ) → Graphs.Admitted (graph F) → g ≤ 255 → Small (Ok (report_with F g))
 unfolding report
 report_small F g ok l = (omega (arith, (run_stops (graph F) (scheme F) g).within), unsatisfied_small F (stop (graph F) (scheme F) g) ok)
 
-pub both_small : (P : Heads) (M N : Memory) (d : List ℕ) {M' N' : Memory} {d' : List ℕ} {r r₂ : Report} → DecodesPair P M M' N N' d d' (Answer.Ran r r₂) → Small (Ran r) × Small (Ran r₂)
+pub both_small : (P : Heads) (M N : Memory) (d : List ℕ) {M' N' : Memory} {d' : List ℕ} {r r₂ : Report} → DecodesPair P M M' N N' d d' (Ok (r, r₂)) → Small (Ok r) × Small (Ok r₂)
 both_small P M N d {r = r} {r₂ = r₂} w = (
-  subst (λ (x : Report). Small (Ran x)) (sym ran.1) (report_small (first_frame P) (grant (half_up T) T a b) ok (omega (arith, la))),
-  subst (λ (x : Report). Small (Ran x)) (sym ran.2) (report_small (second_frame P) (grant (half_down T) T b a) ok (omega (arith, lb))),
+  subst (λ (x : Report). Small (Ok x)) (sym ran.1) (report_small (first_frame P) (grant (half_up T) T a b) ok (omega (arith, la))),
+  subst (λ (x : Report). Small (Ok x)) (sym ran.2) (report_small (second_frame P) (grant (half_down T) T b a) ok (omega (arith, lb))),
 )
   where
     T : ℕ
@@ -96,7 +89,7 @@ both_small P M N d {r = r} {r₂ = r₂} w = (
     ran : (pair_finds P (length d) (room_of M) (room_of N) ≡ admitted) × (r ≡ first_report P) × (r₂ ≡ second_report P)
     ran = ran_told P (pair_finds P (length d) (room_of M) (room_of N)) w.answer
 
-    told : (decode_finds (first_frame P) (length d) (room_of M) ≡ Judgement.Admitted) × (decode_finds (second_frame P) (length d) (room_of N) ≡ Judgement.Admitted) × (allowance_judged P.allowance ≡ Judgement.Admitted)
+    told : (decode_finds (first_frame P) (length d) (room_of M) ≡ Ok tt) × (decode_finds (second_frame P) (length d) (room_of N) ≡ Ok tt) × (allowance_judged P.allowance ≡ Ok tt)
     told = all_told P (length d) (room_of M) (room_of N) ran.0
 
     ok : Graphs.Admitted (graph_of_both P)
@@ -119,7 +112,7 @@ party_small Pair = omega arith
 pub as_answer : {P : Heads} {M M' N N' : Memory} {d d' : List ℕ} {x y : Paired} → x ≡ y → DecodesPair P M M' N N' d d' x → DecodesPair P M M' N N' d d' y
 as_answer {P} {M} {M'} {N} {N'} {d} {d'} e w = subst (DecodesPair P M M' N N' d d') e w
 
-pub short_refused : (P : Heads) (m m' : Room) {d d' : List ℕ} {a : CheckedPair} {p : Party} {r : Refusal} {x : ℕ} → AcceptsPair P m m' d d' a → a ≡ Pairs.Refused p r → x ≡ pack_refused p r
+pub short_refused : (P : Heads) (m m' : Room) {d d' : List ℕ} {a : CheckedPair} {p : Party} {r : Refusal} {x : ℕ} → AcceptsPair P m m' d d' a → a ≡ Err (p, r) → x ≡ pack_refused p r
     → RefusesShort P m m' d d' x
 short_refused P m m' {d} w e q = record {
   answer = q ∙ sym (ap (λ f. pack_found (or_then f (refused Pair Refusals.Buffer))) (found_refused (pair_finds P (length d) m m') (settings P.first.asked) (settings P.second.asked) (sym w.answer ∙ e)));
@@ -134,13 +127,13 @@ module _ (P : Heads) (M N : Memory) (d l : List ℕ) where
   abbrev finds : Found
   finds = pair_finds P (length d) (room_of M) (room_of N)
 
-  pub reported_refused : {M' N' : Memory} {d' : List ℕ} {p : Party} {r : Refusal} {x : ℕ} → DecodesPair P M M' N N' d d' (Answer.Refused p r) → x ≡ pack_refused p r
+  pub reported_refused : {M' N' : Memory} {d' : List ℕ} {p : Party} {r : Refusal} {x : ℕ} → DecodesPair P M M' N N' d d' (Err (p, r)) → x ≡ pack_refused p r
       → ReportsPair P M M' N N' d d' l l x
   reported_refused w q =
       let h = refused_told P finds w.answer in
       record { answer = q ∙ sym (ap pack_found h); first = w.first; second = w.second; reports = sym (ap (λ f. reports_after P f l) h); degrees = w.degrees }
 
-  pub reported_ran : {M' N' : Memory} {d' l' : List ℕ} {r r₂ : Report} → DecodesPair P M M' N N' d d' (Answer.Ran r r₂) → l' ≡ bytes 8 (pack_decoded (Ran r)) ++ (bytes 8 (pack_decoded (Ran r₂)) ++ drop 16 l)
+  pub reported_ran : {M' N' : Memory} {d' l' : List ℕ} {r r₂ : Report} → DecodesPair P M M' N N' d d' (Ok (r, r₂)) → l' ≡ bytes 8 (pack_decoded (Ok r)) ++ (bytes 8 (pack_decoded (Ok r₂)) ++ drop 16 l)
       → ReportsPair P M M' N N' d d' l l' 0
   reported_ran w q =
       let h = ran_told P finds w.answer in
@@ -148,7 +141,7 @@ module _ (P : Heads) (M N : Memory) (d l : List ℕ) where
         answer = sym (ap pack_found h.0);
         first = w.first;
         second = w.second;
-        reports = q ∙ ap₂ (λ (a b : Report). bytes 8 (pack_decoded (Ran a)) ++ (bytes 8 (pack_decoded (Ran b)) ++ drop 16 l)) h.1 h.2 ∙ sym (ap (λ f. reports_after P f l) h.0);
+        reports = q ∙ ap₂ (λ (a b : Report). bytes 8 (pack_decoded (Ok a)) ++ (bytes 8 (pack_decoded (Ok b)) ++ drop 16 l)) h.1 h.2 ∙ sym (ap (λ f. reports_after P f l) h.0);
         degrees = w.degrees;
       }
 
@@ -197,7 +190,7 @@ number_of_lem Pair r = omega (arith, number_below r)
 
 module _ (F : Frame) (d : ℕ) (m : Room) where
   -- a refusal has its place
-  refused_placed : {r : Refusal} → decode_finds F d m ≡ Judgement.Refused r → decode_place (graph F) F.values d (paper r).number ≡ (paper r).place
+  refused_placed : {r : Refusal} → decode_finds F d m ≡ Err r → decode_place (graph F) F.values d (paper r).number ≡ (paper r).place
   refused_placed {r} h =
       ap (decode_place (graph F) F.values d) (sym (number_small r)) ∙ ap (λ j. decode_place (graph F) F.values d (number_of j % 256)) (sym h)
       ∙ same ∙ places_told F d m ∙ ap place_of h
@@ -206,13 +199,13 @@ module _ (F : Frame) (d : ℕ) (m : Room) where
       same = rw h refl
 
   -- and where nothing is refused there is none, whatever number is asked for
-  none_refused : decode_finds F d m ≡ Judgement.Admitted → (x : ℕ) → decode_place (graph F) F.values d x ≡ 0
+  none_refused : decode_finds F d m ≡ Ok tt → (x : ℕ) → decode_place (graph F) F.values d x ≡ 0
   none_refused h x = rw none (none_placed (eqb 0 x))
     where
       g : Judged
       g = graph_judged_in limits (graph F) d
 
-      none : places_judged (graph F) F.values d ≡ Judgement.Admitted
+      none : places_judged (graph F) F.values d ≡ Ok tt
       none =
           let passed = frame_passed F g (memory_told F g m h).0 in
           let asked = asked_told F passed.1 in
@@ -229,10 +222,10 @@ pair_places P d m m' k = go (decode_finds (first_frame P) d m) refl (decode_find
     last = or_then (found_of Pair (allowance_judged P.allowance) admitted) (found_of Pair (unless (leb 16 k) Refusals.Buffer) admitted)
 
     -- neither head's
-    none : decode_finds (first_frame P) d m ≡ Judgement.Admitted → (r : Refusal) → (paper r).place ≡ 0 → placed (pack_refused Pair r) ≡ (paper r).place
+    none : decode_finds (first_frame P) d m ≡ Ok tt → (r : Refusal) → (paper r).place ≡ 0 → placed (pack_refused Pair r) ≡ (paper r).place
     none h r e = ap (λ y. decode_place (graph_of_both P) (cond (eqb y 2) P.second.values P.first.values) d (pack_refused Pair r % 256)) (head_of Pair r) ∙ none_refused (first_frame P) d m h (pack_refused Pair r % 256) ∙ sym e
 
-    after : decode_finds (first_frame P) d m ≡ Judgement.Admitted → (f : Found) → ((p : Party) (r : Refusal) → f ≡ refused p r → (p ≡ Pair) × ((paper r).place ≡ 0)) → placed (pack_found f) ≡ found_place f
+    after : decode_finds (first_frame P) d m ≡ Ok tt → (f : Found) → ((p : Party) (r : Refusal) → f ≡ refused p r → (p ≡ Pair) × ((paper r).place ≡ 0)) → placed (pack_found f) ≡ found_place f
     after h admitted q = none_refused (first_frame P) d m h 0
     after h (refused p r) q = let s = q p r refl in ap (λ (p : Party). placed (pack_refused p r)) s.0 ∙ none h r s.1
 
@@ -244,8 +237,8 @@ pair_places P d m m' k = go (decode_finds (first_frame P) d m) refl (decode_find
     go : (j : Judged) → decode_finds (first_frame P) d m ≡ j → (j' : Judged) → decode_finds (second_frame P) d m' ≡ j'
         → placed (pack_found (or_then (found_of First j (found_of Second j' (found_of Pair (allowance_judged P.allowance) admitted))) (found_of Pair (unless (leb 16 k) Refusals.Buffer) admitted)))
         ≡ found_place (or_then (found_of First j (found_of Second j' (found_of Pair (allowance_judged P.allowance) admitted))) (found_of Pair (unless (leb 16 k) Refusals.Buffer) admitted))
-    go (Judgement.Refused r) h j' h' =
+    go (Err r) h j' h' =
         ap₂ (λ y n. decode_place (graph_of_both P) (cond (eqb y 2) P.second.values P.first.values) d n) (head_of First r) (number_of_lem First r) ∙ refused_placed (first_frame P) d m h
-    go Judgement.Admitted h (Judgement.Refused r) h' =
+    go (Ok _) h (Err r) h' =
         ap₂ (λ y n. decode_place (graph_of_both P) (cond (eqb y 2) P.second.values P.first.values) d n) (head_of Second r) (number_of_lem Second r) ∙ refused_placed (second_frame P) d m' h'
-    go Judgement.Admitted h Judgement.Admitted h' = after h last (of_last (between 2 P.allowance 510) (leb 16 k))
+    go (Ok _) h (Ok _) h' = after h last (of_last (between 2 P.allowance 510) (leb 16 k))

@@ -1,4 +1,5 @@
 -- A run that pauses: what fits one number, and what the entries promise.
+use Rattle.std.specs.Prelude.{Ok, Err}
 use mathlib.Core.Path.{◌≡◌, refl, sym, ap, ap₂, ◌∙◌, subst}
 use mathlib.Core.Bool.{Bool, true, false, cond}
 use mathlib.Core.List.{List}
@@ -10,9 +11,7 @@ use lib.ListN.{length, take}
 use Rattle.rules.specs.Levels.{largest}
 use Rattle.rules.specs.Graphs.{Graph, limits, Admitted, odd_check, unsatisfied}
 use Rattle.rules.specs.Sequence.{bit_at, begun}
-use Rattle.refusals.specs.Refusals.{paper, unless, or_else}
-use Rattle.refusals.specs.declared.Judged.{Judged}
-use Rattle.refusals.specs.declared.Judged.TheVariants as Judgement
+use Rattle.refusals.specs.Refusals.{paper, unless, or_else, Judged}
 use Rattle.refusals.specs.declared.Refusal.{Refusal}
 use Rattle.refusals.specs.declared.Refusal.TheVariants as R
 use Rattle.rules.proofs.Ranges.{count_le}
@@ -29,9 +28,8 @@ use Rattle.decoding.proofs.Accepting.{frame_passed, memory_told}
 use Rattle.pausing.specs.declared.Run.{Run}
 use Rattle.pausing.specs.declared.Standing.{Standing}
 use Rattle.pausing.specs.declared.Standing.TheVariants.{Open, Codeword, Stopped}
-use Rattle.pausing.specs.declared.Begun.{Begun}
+use Rattle.pausing.specs.Pausing.{Begun, begun_answer, Begins, Lent, lent, Asked, scaled, unscaled_judged, handed, within_judged, refilled, graph_asked, limit_asked, scheme_asked, resume_judged, advance_judged, advance_finds, state_after, lent_after, Advances}
 use Rattle.pausing.specs.Records.{is_open, record_of, admits}
-use Rattle.pausing.specs.Pausing.{begun_answer, Begins, Lent, lent, Asked, scaled, unscaled_judged, handed, within_judged, refilled, graph_asked, limit_asked, scheme_asked, resume_judged, advance_judged, advance_finds, state_after, lent_after, Advances}
 use Rattle.pausing.proofs.Pausing.{resumed_within}
 use Rattle.interface.specs.Packing.{pack_decoded, place_of, decode_place}
 use Rattle.interface.specs.Runs.{standing_number, pack_run, pack_begun, pack_advanced, is_open_number, unpacked, HostBegins, HostAdvances, SmallRun, SmallBegun, SmallAdvanced, RecordsKept, BeginPlaces, AdvancePlaces}
@@ -53,8 +51,8 @@ unfolding begun
 begun_small F M d = go (decode_finds F d (room_of M)) refl
   where
     go : (j : Judged) → decode_finds F d (room_of M) ≡ j → SmallBegun (begun_answer F j)
-    go (Judgement.Refused r) h = omega arith
-    go Judgement.Admitted h =
+    go (Err r) h = omega arith
+    go (Ok _) h =
         let g = graph_judged_in limits (graph F) d in
         (omega arith, odd_small (graph F) (lent_admitted (graph F) d (frame_passed F g (memory_told F g (room_of M) h).0).0) (bit_at (begun (graph F) (scheme F)).bits))
 
@@ -71,7 +69,7 @@ unpacked_small x = go (is_open_number x) refl
         (omega (arith, leb-true (x / 65536 % 65536) 254 (and_left (leb (x / 65536 % 65536) 254) _ h)), leb-true (x / 4294967296) limits.checks (and_right (leb 1 (x / 4294967296)) _ k))
 
 -- and so is that of an accepted advance
-pub advanced_small : (A : Asked) (x : ℕ) (M : Memory) (d : ℕ) → advance_finds A d (lent (unpacked x) M) ≡ Judgement.Admitted → SmallRun (lent_after A Judgement.Admitted (lent (unpacked x) M)).run
+pub advanced_small : (A : Asked) (x : ℕ) (M : Memory) (d : ℕ) → advance_finds A d (lent (unpacked x) M) ≡ Ok tt → SmallRun (lent_after A (Ok tt) (lent (unpacked x) M)).run
 unfolding advance_judged resume_judged
 advanced_small A x M d h = go (eqb A.count 0)
   where
@@ -81,10 +79,10 @@ advanced_small A x M d h = go (eqb A.count 0)
     g : Judged
     g = graph_judged_in limits (graph_asked A) d
 
-    rest : unscaled_judged A.settings ≡ Judgement.Admitted
+    rest : unscaled_judged A.settings ≡ Ok tt
     rest = or_else_left (unscaled_judged A.settings) _ (or_else_right g _ h)
 
-    resumable : resume_judged A z ≡ Judgement.Admitted
+    resumable : resume_judged A z ≡ Ok tt
     resumable = or_else_right (unless (enough A.variables (graph_asked A).entries (room_of M)) R.Buffer) _ (or_else_right (unscaled_judged A.settings) _ (or_else_right g _ h))
 
     low : limit_asked A ≤ 255
@@ -119,17 +117,17 @@ module _ (A : Asked) (x : ℕ) {u : Run} (is : u ≡ unpacked x) {M M' : Memory}
   same : Advances A (lent (unpacked x) M) (lent p M') d d' j
   same = subst (λ u. Advances A (lent u M) (lent p M') d d' j) is w
 
-  packed_small : j ≡ Judgement.Admitted → SmallRun p
+  packed_small : j ≡ Ok tt → SmallRun p
   packed_small h =
-      let f : advance_finds A (length d) (lent (unpacked x) M) ≡ Judgement.Admitted = sym same.answer ∙ h in
+      let f : advance_finds A (length d) (lent (unpacked x) M) ≡ (Ok tt) = sym same.answer ∙ h in
       subst SmallRun (sym (ap (λ (z : Lent). z.run) (same.lent ∙ ap (λ j. lent_after A j (lent (unpacked x) M)) f))) (advanced_small A x M (length d) f)
 
   pub advanced_packs : SmallAdvanced j p
   advanced_packs = go j refl
     where
       go : (i : Judged) → j ≡ i → SmallAdvanced i p
-      go Judgement.Admitted h = packed_small h
-      go (Judgement.Refused r) h = omega arith
+      go (Ok _) h = packed_small h
+      go (Err r) h = omega arith
 
   pub host_advances : {r : ℕ} → r ≡ pack_advanced j p → HostAdvances A x M M' d d' r
   host_advances e = record {
@@ -184,32 +182,32 @@ pub begin_places : BeginPlaces
 begin_places F d m = ap (λ n. decode_place (graph F) F.values d n) (go (decode_finds F d m)) ∙ places_told F d m
   where
     go : (j : Judged) → pack_begun (begun_answer F j) % 256 ≡ pack_decoded (decoded F j) % 256
-    go (Judgement.Refused r) = refl
-    go Judgement.Admitted = omega arith
+    go (Err r) = refl
+    go (Ok _) = omega arith
 
 -- what is judged after the graph has place 0
 module _ (N n : ℕ) (l : List ℕ) where
-  within_placeless : (r : Refusal) → within_judged N l n ≡ Judgement.Refused r → (paper r).place ≡ 0
+  within_placeless : (r : Refusal) → within_judged N l n ≡ Err r → (paper r).place ≡ 0
   unfolding within_judged
   within_placeless r e = each_from (λ s. (paper s).place ≡ 0) (λ k. unless (leb (level_in l k).magnitude N) R.Advance) n (λ k s. one s (leb (level_in l k).magnitude N)) r e
     where
-      one : (s : Refusal) (b : Bool) → unless b R.Advance ≡ Judgement.Refused s → (paper s).place ≡ 0
+      one : (s : Refusal) (b : Bool) → unless b R.Advance ≡ Err s → (paper s).place ≡ 0
       one s true d = absurd (refused_not (sym d))
       one s false d = ap (λ j. place_of j) (sym d)
 
-in_order : (g : Judged) (p o l e a : Bool) (x y z : Judged) → ((r : Refusal) → x ≡ Judgement.Refused r → (paper r).place ≡ 0) → ((r : Refusal) → y ≡ Judgement.Refused r → (paper r).place ≡ 0)
-    → ((r : Refusal) → z ≡ Judgement.Refused r → (paper r).place ≡ 0)
+in_order : (g : Judged) (p o l e a : Bool) (x y z : Judged) → ((r : Refusal) → x ≡ Err r → (paper r).place ≡ 0) → ((r : Refusal) → y ≡ Err r → (paper r).place ≡ 0)
+    → ((r : Refusal) → z ≡ Err r → (paper r).place ≡ 0)
     → place_of g ≡ place_of (or_else g (or_else (or_else (unless p R.Precision) (or_else (unless o R.Option) (unless l R.Lifting))) (or_else (unless e R.Buffer) (or_else (unless a R.Advance) (or_else x (or_else y z))))))
-in_order (Judgement.Refused r) p o l e a x y z hx hy hz = refl
-in_order Judgement.Admitted false o l e a x y z hx hy hz = refl
-in_order Judgement.Admitted true false l e a x y z hx hy hz = refl
-in_order Judgement.Admitted true true false e a x y z hx hy hz = refl
-in_order Judgement.Admitted true true true false a x y z hx hy hz = refl
-in_order Judgement.Admitted true true true true false x y z hx hy hz = refl
-in_order Judgement.Admitted true true true true true (Judgement.Refused r) y z hx hy hz = sym (hx r refl)
-in_order Judgement.Admitted true true true true true Judgement.Admitted (Judgement.Refused r) z hx hy hz = sym (hy r refl)
-in_order Judgement.Admitted true true true true true Judgement.Admitted Judgement.Admitted (Judgement.Refused r) hx hy hz = sym (hz r refl)
-in_order Judgement.Admitted true true true true true Judgement.Admitted Judgement.Admitted Judgement.Admitted hx hy hz = refl
+in_order (Err r) p o l e a x y z hx hy hz = refl
+in_order (Ok _) false o l e a x y z hx hy hz = refl
+in_order (Ok _) true false l e a x y z hx hy hz = refl
+in_order (Ok _) true true false e a x y z hx hy hz = refl
+in_order (Ok _) true true true false a x y z hx hy hz = refl
+in_order (Ok _) true true true true false x y z hx hy hz = refl
+in_order (Ok _) true true true true true (Err r) y z hx hy hz = sym (hx r refl)
+in_order (Ok _) true true true true true (Ok _) (Err r) z hx hy hz = sym (hy r refl)
+in_order (Ok _) true true true true true (Ok _) (Ok _) (Err r) hx hy hz = sym (hz r refl)
+in_order (Ok _) true true true true true (Ok _) (Ok _) (Ok _) hx hy hz = refl
 
 pub advance_places : AdvancePlaces
 unfolding advance_judged resume_judged

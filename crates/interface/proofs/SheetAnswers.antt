@@ -1,4 +1,5 @@
 -- The numbers of the answers for sheets fit their places, and the library's promises hold with the answers packed.
+use Rattle.std.specs.Prelude.{Ok, Err}
 use mathlib.Core.Path.{◌≡◌, refl, ap, ◌∙◌}
 use mathlib.Core.List.{List}
 use Prim.Native.Nat.{ℕ, suc, ◌*◌}
@@ -6,15 +7,12 @@ use native.Mathlib.Omega.{arith}
 use lib.ListN.{length, drop}
 use Rattle.rules.specs.Graphs as Graphs
 use Rattle.rules.specs.Graphs.{Graph, limits}
-use Rattle.refusals.specs.declared.Judged.{Judged}
-use Rattle.refusals.specs.declared.Judged.TheVariants.{Admitted, Refused}
+use Rattle.refusals.specs.Refusals.{Judged}
 use Rattle.words.specs.Roles.{wide, start_at}
 use Rattle.words.proofs.Words.{at_table}
-use Rattle.code_sheets.specs.Reader.Reading.{Reading, turned, graph, sheet_read_in, answer_of, starts_of, ReadInto, JudgedInto}
-use Rattle.code_sheets.specs.declared.Sheet.{Sheet}
+use Rattle.code_sheets.specs.Reader.Reading.{Reading, turned, graph, sheet_read_in, answer_of, starts_of, ReadInto, JudgedInto, Sheet}
 use Rattle.code_sheets.proofs.Reader.Texts.{texts_and_graphs}
-use Rattle.code_sheets.specs.Writer.Writing.{write_finds, write_answer, JudgesWrite, WritesInto}
-use Rattle.code_sheets.specs.declared.Written.{Written}
+use Rattle.code_sheets.specs.Writer.Writing.{write_finds, write_answer, JudgesWrite, WritesInto, Written}
 use Rattle.code_sheets.proofs.Writer.Judging.{write_admitted}
 use Rattle.code_sheets.proofs.Writer.Sizes.{sheets_short}
 use Rattle.interface.specs.Packing.{pack_read, pack_written, place_of, HostReads, HostWrites, TellsPlace, TellsLine, SmallRead, SmallWritten}
@@ -41,8 +39,8 @@ pub written_small : (G : Graph) (d room : ℕ) → SmallWritten (write_answer (w
 written_small G d room = go (write_finds G d room) refl
   where
     go : (j : Judged) → write_finds G d room ≡ j → SmallWritten (write_answer j G)
-    go (Refused r) e = omega arith
-    go Admitted e =
+    go (Err r) e = omega arith
+    go (Ok _) e =
         let a = (write_admitted G d room e).0 in
         omega (arith, sheets_short G a, a.entries)
 

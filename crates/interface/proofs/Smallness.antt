@@ -1,4 +1,5 @@
 -- The numbers of an answer fit their places.
+use Rattle.std.specs.Prelude.{Ok, Err}
 use mathlib.Core.Path.{◌≡◌, ap, ◌∙◌, subst}
 use mathlib.Core.List.{List}
 use Prim.Native.Nat.{ℕ, ◌≤◌}
@@ -6,8 +7,7 @@ use native.Mathlib.Omega.{arith}
 use Rattle.rules.specs.Graphs as Graphs
 use Rattle.rules.specs.Graphs.{limits, unsatisfied, odd_check}
 use Rattle.rules.specs.Sequence.{bit_at, state, unsatisfied_in, stop, report}
-use Rattle.refusals.specs.declared.Judged.{Judged}
-use Rattle.refusals.specs.declared.Judged.TheVariants.{Admitted, Refused}
+use Rattle.refusals.specs.Refusals.{Judged}
 use Rattle.rules.proofs.Ranges.{count_le}
 use Rattle.rules.proofs.Stops.{run_stops}
 use Rattle.graphs.specs.Judging.{graph_judged_in}
@@ -15,9 +15,8 @@ use Rattle.graphs.proofs.Lending.{lent_admitted}
 use Rattle.settings.specs.declared.Scaling.{Scaling}
 use Rattle.rules.specs.declared.Verdict.{Verdict}
 use Rattle.rules.specs.declared.Verdict.TheVariants.{Codeword, Stopped}
-use Rattle.decoding.specs.declared.Decoded.{Decoded}
+use Rattle.decoding.specs.Decoding.{Decoded, Frame, Memory, Decodes, graph, scheme, decode_finds, decoded}
 use Rattle.decoding.specs.declared.Room.{Room}
-use Rattle.decoding.specs.Decoding.{Frame, Memory, Decodes, graph, scheme, decode_finds, decoded}
 use Rattle.decoding.proofs.Accepting.{frame_passed, asked_told, limit_small, memory_told}
 use Rattle.interface.specs.Packing.{Small, verdict_of, pack_decoded, HostDecodes}
 
@@ -28,8 +27,8 @@ unsatisfied_small F t a =
 
 pub decoded_small : (F : Frame) (d : ℕ) (m : Room) (j : Judged) → decode_finds F d m ≡ j → Small (decoded F j)
 unfolding report
-decoded_small F d m (Refused r) h = omega arith
-decoded_small F d m Admitted h =
+decoded_small F d m (Err r) h = omega arith
+decoded_small F d m (Ok _) h =
     let g = graph_judged_in limits (graph F) d in
     let passed = frame_passed F g (memory_told F g m h).0 in (
       omega (arith, (run_stops (graph F) (scheme F) F.asked.limit).within, limit_small F (asked_told F passed.1).1),

@@ -1,7 +1,7 @@
 -- What the C entry for the writing side promises.
 use Rattle.std.specs.Prelude.{◌≡◌, List, ℕ, length}
 use Rattle.rules.specs.Graphs.{Graph}
-use Rattle.refusals.specs.declared.Judged.{Judged}
+use Rattle.refusals.specs.Refusals.{Judged}
 use Rattle.graphs.specs.Judging.{countable}
 use Rattle.graphs.specs.Degrees.{degrees_in}
 use Rattle.codewords.specs.Encoding.{encoder_limits, input_judged, Encodes}

@@ -1,11 +1,9 @@
 -- The answers of the C entries, each packed into one number.
-use Rattle.std.specs.Prelude.{◌≡◌, cond, List, ℕ, ◌+◌, ◌*◌, ◌/◌, ◌≤◌, eqb, Float, length}
+use Rattle.std.specs.Prelude.{◌≡◌, cond, List, ℕ, ◌+◌, ◌*◌, ◌/◌, ◌≤◌, eqb, Float, length, Ok, Err}
 use Rattle.std.specs.Float.{binary32}
 use Rattle.std.specs.Float.Ieee.{of_bits}
 use Rattle.rules.specs.Graphs.{Graph, limits}
-use Rattle.refusals.specs.Refusals.{paper, unless, or_else}
-use Rattle.refusals.specs.declared.Judged.{Judged}
-use Rattle.refusals.specs.declared.Judged.TheVariants as Judgement
+use Rattle.refusals.specs.Refusals.{paper, unless, or_else, Judged}
 use Rattle.refusals.specs.declared.Refusal.TheVariants.{Length}
 use Rattle.rules.specs.declared.Verdict.{Verdict}
 use Rattle.rules.specs.declared.Verdict.TheVariants.{Codeword, Stopped}
@@ -15,16 +13,10 @@ use Rattle.settings.specs.Values.{values_judged}
 use Rattle.settings.specs.declared.Parameters.{Parameters}
 use Rattle.settings.specs.declared.Scaling.{Scaling}
 use Rattle.settings.specs.declared.Scaling.TheVariants.{Plain, Noise}
-use Rattle.decoding.specs.declared.Decoded.{Decoded}
-use Rattle.decoding.specs.declared.Decoded.TheVariants as Answer
-use Rattle.decoding.specs.Decoding.{Frame, Memory, room_of, graph, decode_finds, decoded, memory_after}
+use Rattle.decoding.specs.Decoding.{Decoded, Frame, Memory, room_of, graph, decode_finds, decoded, memory_after}
 use Rattle.code_sheets.specs.Text.Reading.{sheet_lines}
-use Rattle.code_sheets.specs.Reader.Reading.{sheet_read_in, read_judged, answer_of, starts_of, columns_of, degrees_of}
-use Rattle.code_sheets.specs.declared.Sheet.{Sheet}
-use Rattle.code_sheets.specs.declared.Sheet.TheVariants as Reads
-use Rattle.code_sheets.specs.Writer.Writing.{write_finds, write_answer, written_in}
-use Rattle.code_sheets.specs.declared.Written.{Written}
-use Rattle.code_sheets.specs.declared.Written.TheVariants as Writes
+use Rattle.code_sheets.specs.Reader.Reading.{sheet_read_in, read_judged, answer_of, starts_of, columns_of, degrees_of, Sheet}
+use Rattle.code_sheets.specs.Writer.Writing.{write_finds, write_answer, written_in, Written}
 
 -- 'Kind 0 is a plain gain (variance unread), 1 a gain with variance; another kind gets 10', in 10's place of the order, as a gain of zero does.
 abbrev pub scaling_of : ℕ → Float → Float → Scaling
@@ -51,18 +43,18 @@ verdict_of Stopped = 1
 
 -- Decode: then a byte for the verdict (0 codeword, 1 stopped), two bytes for the iteration count, four for the unsatisfied checks.
 abbrev pub pack_decoded : Decoded → ℕ
-pack_decoded (Answer.Refused r) = (paper r).number
-pack_decoded (Answer.Ran r) = 256 * verdict_of r.verdict + 65536 * r.iterations + 4294967296 * r.unsatisfied
+pack_decoded (Err r) = (paper r).number
+pack_decoded (Ok r) = 256 * verdict_of r.verdict + 65536 * r.iterations + 4294967296 * r.unsatisfied
 
 -- The place of a refusal, 0 where nothing is refused.
 abbrev pub place_of : Judged → ℕ
-place_of Judgement.Admitted = 0
-place_of (Judgement.Refused r) = (paper r).place
+place_of (Ok _) = 0
+place_of (Err r) = (paper r).place
 
 -- The number of a refusal, 0 where nothing is refused.
 abbrev pub number_of : Judged → ℕ
-number_of Judgement.Admitted = 0
-number_of (Judgement.Refused r) = (paper r).number
+number_of (Ok _) = 0
+number_of (Err r) = (paper r).number
 
 -- What decode refuses of the graph with a list of degrees of d bytes, and of the values, in its order: the graph's, 13, 12.
 abbrev pub places_judged : Graph → List ℕ → ℕ → Judged
@@ -88,13 +80,13 @@ pub record TellsPlace (G : Graph) (place : ℕ) (old now : List ℕ) (r : ℕ) :
 
 -- Read: a byte for the refusal's number, three bytes for n, three for m. E is the last of the starts that were read.
 abbrev pub pack_read : Sheet → ℕ
-pack_read (Reads.Refused r) = (paper r).number
-pack_read (Reads.Read k) = 256 * k.variables + 4294967296 * k.checks
+pack_read (Err r) = (paper r).number
+pack_read (Ok k) = 256 * k.variables + 4294967296 * k.checks
 
 -- Write: a byte for the refusal's number, seven for the text's length.
 abbrev pub pack_written : Written → ℕ
-pack_written (Writes.Refused r) = (paper r).number
-pack_written (Writes.Length size) = 256 * size
+pack_written (Err r) = (paper r).number
+pack_written (Ok size) = 256 * size
 
 -- What the entry for reading promises of its answer r and of the three lists, before and after.
 pub record HostReads (t d d' s s' c c' : List ℕ) (r : ℕ) : Type 0 where
@@ -117,14 +109,14 @@ pub record HostWrites (G : Graph) (d d' old now : List ℕ) (r : ℕ) : Type 0 w
 -- ---- numbers that fit their places
 
 abbrev pub Small : Decoded → Type 0
-Small (Answer.Refused r) = 0 ≤ 0
-Small (Answer.Ran r) = (r.iterations ≤ 255) × (r.unsatisfied ≤ limits.checks)
+Small (Err r) = 0 ≤ 0
+Small (Ok r) = (r.iterations ≤ 255) × (r.unsatisfied ≤ limits.checks)
 
 abbrev pub SmallRead : Sheet → Type 0
-SmallRead (Reads.Refused r) = 0 ≤ 0
-SmallRead (Reads.Read k) = (k.variables ≤ limits.variables) × (k.checks ≤ limits.checks)
+SmallRead (Err r) = 0 ≤ 0
+SmallRead (Ok k) = (k.variables ≤ limits.variables) × (k.checks ≤ limits.checks)
 
 -- As SheetsShort and BlocksShort have it.
 abbrev pub SmallWritten : Written → Type 0
-SmallWritten (Writes.Refused r) = 0 ≤ 0
-SmallWritten (Writes.Length size) = size ≤ 59 + 21 * limits.entries
+SmallWritten (Err r) = 0 ≤ 0
+SmallWritten (Ok size) = size ≤ 59 + 21 * limits.entries

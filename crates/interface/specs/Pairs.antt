@@ -1,5 +1,5 @@
 -- The C entry for two heads: its answer packed into one number, the reports in their list, and what entry and companion promise.
-use Rattle.std.specs.Prelude.{◌≡◌, cond, List, ◌++◌, ℕ, ◌+◌, ◌*◌, ◌/◌, ◌%◌, eqb, leb, length, drop}
+use Rattle.std.specs.Prelude.{◌≡◌, cond, List, ◌++◌, ℕ, ◌+◌, ◌*◌, ◌/◌, ◌%◌, eqb, leb, length, drop, Ok}
 use Rattle.rules.specs.Graphs.{Graph, limits}
 use Rattle.refusals.specs.Refusals.{paper, unless}
 use Rattle.refusals.specs.declared.Refusal.{Refusal}
@@ -8,7 +8,6 @@ use Rattle.words.specs.Words.{bytes}
 use Rattle.graphs.specs.Judging.{countable}
 use Rattle.graphs.specs.Degrees.{degrees_in}
 use Rattle.decoding.specs.declared.Room.{Room}
-use Rattle.decoding.specs.declared.Decoded.TheVariants.{Ran}
 use Rattle.decoding.specs.Decoding.{Memory, room_of}
 use Rattle.decoding.specs.declared.Party.{Party}
 use Rattle.decoding.specs.declared.Party.TheVariants.{First, Second, Pair}
@@ -39,7 +38,7 @@ entry_finds P d m m' k = or_then (pair_finds P d m m') (found_of Pair (unless (l
 
 -- 'Two packed reports', as decode's answer is packed, eight bytes each, at the front of their list.
 abbrev pub reports_after : Heads → Found → List ℕ → List ℕ
-reports_after P admitted l = bytes 8 (pack_decoded (Ran (first_report P))) ++ (bytes 8 (pack_decoded (Ran (second_report P))) ++ drop 16 l)
+reports_after P admitted l = bytes 8 (pack_decoded (Ok (first_report P))) ++ (bytes 8 (pack_decoded (Ok (second_report P))) ++ drop 16 l)
 reports_after P (refused p r) l = l
 
 -- The answer r, each head's memory, the list of degrees and that of reports, before and after, where f is found.

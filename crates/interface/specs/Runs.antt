@@ -1,9 +1,7 @@
 -- The C entries for a run that pauses: the record packed into one number, and what the entries promise.
-use Rattle.std.specs.Prelude.{◌≡◌, Bool, true, false, cond, ◌&&◌, List, ℕ, ◌+◌, ◌*◌, ◌/◌, ◌%◌, ◌≤◌, eqb, leb, length}
+use Rattle.std.specs.Prelude.{◌≡◌, Bool, true, false, cond, ◌&&◌, List, ℕ, ◌+◌, ◌*◌, ◌/◌, ◌%◌, ◌≤◌, eqb, leb, length, Ok, Err}
 use Rattle.rules.specs.Graphs.{limits}
-use Rattle.refusals.specs.Refusals.{paper}
-use Rattle.refusals.specs.declared.Judged.{Judged}
-use Rattle.refusals.specs.declared.Judged.TheVariants as Judgement
+use Rattle.refusals.specs.Refusals.{paper, Judged}
 use Rattle.graphs.specs.Judging.{countable, graph_judged_in}
 use Rattle.graphs.specs.Degrees.{degrees_in}
 use Rattle.decoding.specs.declared.Room.{Room}
@@ -11,11 +9,9 @@ use Rattle.decoding.specs.Decoding.{Frame, Memory, room_of, graph, decode_finds}
 use Rattle.pausing.specs.declared.Run.{Run}
 use Rattle.pausing.specs.declared.Standing.{Standing}
 use Rattle.pausing.specs.declared.Standing.TheVariants.{Open, Codeword, Stopped}
-use Rattle.pausing.specs.declared.Begun.{Begun}
-use Rattle.pausing.specs.declared.Begun.TheVariants as Begins
+use Rattle.pausing.specs.Pausing.{Begun, begun_answer, begun_memory, Lent, lent, Asked, graph_asked, advance_finds, lent_after}
 use Rattle.pausing.specs.declared.Unscaled.{Unscaled}
 use Rattle.pausing.specs.Records.{is_open}
-use Rattle.pausing.specs.Pausing.{begun_answer, begun_memory, Lent, lent, Asked, graph_asked, advance_finds, lent_after}
 use Rattle.interface.specs.Packing.{decode_place, place_of}
 
 -- 'The record is the packed answer itself, verdict byte 2 being open': a byte 0, a byte for how the run stands, two for the iteration, four for the
@@ -29,12 +25,12 @@ abbrev pub pack_run : Run → ℕ
 pack_run r = 256 * standing_number r.standing + 65536 * r.iterations + 4294967296 * r.unsatisfied
 
 abbrev pub pack_begun : Begun → ℕ
-pack_begun (Begins.At r) = pack_run r
-pack_begun (Begins.Refused r) = (paper r).number
+pack_begun (Ok r) = pack_run r
+pack_begun (Err r) = (paper r).number
 
 abbrev pub pack_advanced : Judged → Run → ℕ
-pack_advanced Judgement.Admitted r = pack_run r
-pack_advanced (Judgement.Refused e) r = (paper e).number
+pack_advanced (Ok _) r = pack_run r
+pack_advanced (Err e) r = (paper e).number
 
 -- The numbers that a begin or an advance answers as open: an iteration below some limit, and some unsatisfied check, of as many as a graph may have.
 unfoldable pub is_open_number : ℕ → Bool
@@ -76,12 +72,12 @@ abbrev pub SmallRun : Run → Type 0
 SmallRun r = (r.iterations ≤ 255) × (r.unsatisfied ≤ limits.checks)
 
 abbrev pub SmallBegun : Begun → Type 0
-SmallBegun (Begins.At r) = SmallRun r
-SmallBegun (Begins.Refused r) = 0 ≤ 0
+SmallBegun (Ok r) = SmallRun r
+SmallBegun (Err r) = 0 ≤ 0
 
 abbrev pub SmallAdvanced : Judged → Run → Type 0
-SmallAdvanced Judgement.Admitted r = SmallRun r
-SmallAdvanced (Judgement.Refused e) r = 0 ≤ 0
+SmallAdvanced (Ok _) r = SmallRun r
+SmallAdvanced (Err e) r = 0 ≤ 0
 
 -- A number that is an open record packs it; and the record of an open number in its bounds is unpacked from its number.
 pub record RecordsKept : Type 0 where

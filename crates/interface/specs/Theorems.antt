@@ -1,7 +1,7 @@
 -- What the companions of decode and encode tell, and where a reader of either kind of sheet finds E.
 use Rattle.std.specs.Prelude.{◌≡◌, List, ℕ, ◌%◌, length}
 use Rattle.rules.specs.Graphs.{Graph, limits}
-use Rattle.refusals.specs.declared.Judged.{Judged}
+use Rattle.refusals.specs.Refusals.{Judged}
 use Rattle.words.specs.Roles.{start_at}
 use Rattle.codewords.specs.Encoding.{input_judged, Encodes}
 use Rattle.decoding.specs.declared.Room.{Room}

@@ -2,17 +2,14 @@
 ghost use Rattle.std.specs.Prelude.{◌≡◌};
 ghost use Rattle.interface.specs.Packing.{number_of};
 
-use refusals::Judged;
+use refusals::Refusal;
 
 // The number of what is refused, 0 where nothing is.
-pub fn number_of(j: Judged) -> u64
-    ensures { result ≡ number_of j }
+pub fn number_of(judged: Result<(), Refusal>) -> u64
+    ensures { result ≡ number_of judged }
 {
-    match j {
-        Judged::Admitted => 0,
-        Judged::Refused(r) => {
-            let k = r.numbered();
-            k.number as u64
-        }
+    match judged {
+        Ok(()) => 0,
+        Err(refusal) => crate::number_of(refusal),
     }
 }

@@ -2,11 +2,11 @@
 #![tactic(auto)]
 
 ghost use Rattle.std.specs.Prelude.{◌≡◌};
-ghost use Rattle.interface.specs.Packing.{scaling_of, verdict_of, pack_decoded, place_of, Small};
+ghost use Rattle.refusals.specs.Refusals.{paper};
+ghost use Rattle.interface.specs.Packing.{scaling_of, pack_decoded, place_of, Small};
 
-use decoding::Decoded;
-use refusals::Judged;
-use rules::Verdict;
+use refusals::Refusal;
+use rules::Report;
 use settings::Scaling;
 
 pub mod sheets; // of code sheets
@@ -17,52 +17,41 @@ pub mod runs; // of a run that pauses
 pub fn scaling_of(kind: u32, gain: f32, variance: f32) -> Scaling
     ensures { result ≡ scaling_of kind gain variance }
 {
-    if kind == 0 {
-        return Scaling::Plain(gain);
+    match kind {
+        0 => Scaling::Plain(gain),
+        1 => Scaling::Noise(gain, variance),
+        _ => Scaling::Plain(0.0),
     }
-    if kind == 1 {
-        return Scaling::Noise(gain, variance);
-    }
-    Scaling::Plain(0.0)
 }
 
-pub fn verdict_of(v: Verdict) -> u64
-    ensures { result ≡ verdict_of v }
+// The number of a refusal.
+pub(crate) fn number_of(refusal: Refusal) -> u64
+    ensures { result ≡ (paper refusal).number }
 {
-    match v {
-        Verdict::Codeword => 0,
-        Verdict::Stopped => 1,
-    }
+    u64::from(refusal.numbered().number)
 }
 
 // The answer of decode as one number.
-pub fn pack_decoded(d: Decoded) -> u64
-    requires { Small d }
-    ensures { result ≡ pack_decoded d }
+pub fn pack_decoded(answer: Result<Report, Refusal>) -> u64
+    requires { Small answer }
+    ensures { result ≡ pack_decoded answer }
 {
-    match d {
-        Decoded::Refused(r) => {
-            let k = r.numbered();
-            k.number as u64
-        }
-        Decoded::Ran(r) => {
-            let v = r.verdict;
-            256 * verdict_of(v)
-                + 65536 * (r.iterations as u64)
-                + 4294967296 * (r.unsatisfied as u64)
+    match answer {
+        Err(refusal) => number_of(refusal),
+        Ok(report) => {
+            256 * (report.verdict as u64)
+                + 65536 * (report.iterations as u64)
+                + 4294967296 * (report.unsatisfied as u64)
         }
     }
 }
 
 // The place of what is refused, 0 where nothing is.
-pub fn place_of(j: Judged) -> usize
-    ensures { result ≡ place_of j }
+pub fn place_of(judged: Result<(), Refusal>) -> usize
+    ensures { result ≡ place_of judged }
 {
-    match j {
-        Judged::Admitted => 0,
-        Judged::Refused(r) => {
-            let k = r.numbered();
-            k.place
-        }
+    match judged {
+        Ok(()) => 0,
+        Err(refusal) => refusal.numbered().place,
     }
 }

@@ -1,57 +1,39 @@
 // The answers of a run that pauses. The record is the answer itself.
 ghost use Rattle.std.specs.Prelude.{◌≡◌};
-ghost use Rattle.interface.specs.Runs.{standing_number, pack_run, pack_begun, pack_advanced, unpacked, SmallRun, SmallBegun, SmallAdvanced};
+ghost use Rattle.interface.specs.Runs.{pack_run, pack_begun, pack_advanced, unpacked, SmallRun, SmallBegun, SmallAdvanced};
 
-use pausing::{Advanced, Begun, Run, Standing};
-use refusals::Judged;
-
-pub fn standing_number(s: Standing) -> u64
-    ensures { result ≡ standing_number s }
-{
-    match s {
-        Standing::Codeword => 0,
-        Standing::Stopped => 1,
-        Standing::Open => 2,
-    }
-}
+use pausing::{Advanced, Run, Standing};
+use refusals::Refusal;
 
 // A record as one number.
 pub fn pack_run(run: Run) -> u64
     requires { SmallRun run }
     ensures { result ≡ pack_run run }
 {
-    let standing = run.standing;
-    256 * standing_number(standing)
+    256 * (run.standing as u64)
         + 65536 * (run.iterations as u64)
         + 4294967296 * (run.unsatisfied as u64)
 }
 
 // The answer of begin as one number.
-pub fn pack_begun(b: Begun) -> u64
-    requires { SmallBegun b }
-    ensures { result ≡ pack_begun b }
+pub fn pack_begun(answer: Result<Run, Refusal>) -> u64
+    requires { SmallBegun answer }
+    ensures { result ≡ pack_begun answer }
 {
-    match b {
-        Begun::Refused(r) => {
-            let k = r.numbered();
-            k.number as u64
-        }
-        Begun::At(run) => pack_run(run),
+    match answer {
+        Err(refusal) => crate::number_of(refusal),
+        Ok(run) => pack_run(run),
     }
 }
 
 // The answer of advance as one number.
-pub fn pack_advanced(a: Advanced) -> u64
-    requires { SmallAdvanced a.judged a.run }
-    ensures { result ≡ pack_advanced a.judged a.run }
+pub fn pack_advanced(answer: Advanced) -> u64
+    requires { SmallAdvanced answer.judged answer.run }
+    ensures { result ≡ pack_advanced answer.judged answer.run }
 {
-    let judged = a.judged;
-    match judged {
-        Judged::Refused(r) => {
-            let k = r.numbered();
-            k.number as u64
-        }
-        Judged::Admitted => pack_run(a.run),
+    match answer.judged {
+        Err(refusal) => crate::number_of(refusal),
+        Ok(()) => pack_run(answer.run),
     }
 }
 

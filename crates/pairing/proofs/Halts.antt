@@ -1,4 +1,5 @@
 -- A frame's run in its memory, halted and carried on, and what it is under its grant.
+use Rattle.std.specs.Prelude.{Ok}
 use mathlib.Core.Path.{◌≡◌, refl, sym, ap, ◌∙◌, subst}
 use mathlib.Core.Bool.{Bool, true, false, not, cond}
 use mathlib.Core.List.{List, map}
@@ -14,10 +15,9 @@ use mir.Syntax.{w32}
 use mir.Val.{of_z}
 use Rattle.rules.specs.Ranges.{one, tabulate}
 use Rattle.rules.specs.Levels.{byte, largest}
-use Rattle.rules.specs.Graphs.{Graph, unsatisfied}
+use Rattle.rules.specs.Graphs.{Graph}
 use Rattle.rules.specs.Sequence.{Scheme, State, begun, state, unsatisfied_in, stop, final, report}
 use Rattle.rules.specs.Halting.{onward_by, resumed, halted}
-use Rattle.refusals.specs.declared.Judged.TheVariants as Judgement
 use Rattle.rules.specs.declared.Report.{Report}
 use Rattle.rules.specs.declared.Verdict.TheVariants as Verdicts
 use Rattle.rules.proofs.Own.{largest_within}
@@ -32,12 +32,12 @@ use Rattle.settings.proofs.Magnitudes.{magnitudes_within}
 use Rattle.nodes.specs.Memory.{level_in}
 use Rattle.steps.specs.Steps.{offsets_in, lifting_in, rules_under}
 use Rattle.decoding.specs.Decoding.{Memory, filled}
-use Rattle.decoder.specs.Runs.{report_at, levels_under, Ready}
+use Rattle.decoder.specs.Runs.{report_at, levels_under, Long, Ready}
 use Rattle.pausing.specs.declared.Run.{Run}
 use Rattle.pausing.specs.declared.Standing.TheVariants.{Open, Codeword, Stopped}
 use Rattle.pausing.specs.Records.{is_open, record_at, record_of}
 use Rattle.pausing.specs.Pausing.{handed, within_judged, refilled}
-use Rattle.pausing.specs.Exact.{Long, BeginsInto, AdvancesInto}
+use Rattle.pausing.specs.Exact.{BeginsInto, AdvancesInto}
 use Rattle.pausing.proofs.Carrying.{kept, messages_small, list_lengths, taken_within, open_is, open_below, carried, refilled_is}
 use Rattle.decoding.specs.Pairing.Grants.{grant}
 use Rattle.pairing.specs.Exact.{rules_of, HaltsAt, left_by, verdict_of, report_of, RunsGranted}
@@ -218,13 +218,13 @@ module _ {s : Settings} (G : Graph) (values : List ℕ) (ready : Ready s G value
     abbrev t : ℕ
     t = min p.iterations (stop G R limit)
 
-    pub variable_within : within_judged (largest s.message) M.variable_messages G.entries ≡ Judgement.Admitted
+    pub variable_within : within_judged (largest s.message) M.variable_messages G.entries ≡ Ok tt
     unfolding halted
     variable_within = ap (λ (X : Memory). within_judged (largest s.message) X.variable_messages G.entries) w.memory
         ∙ messages_small (largest s.message) small (state G R t).variable_messages G.entries (drop G.entries M.variable_messages) (list_lengths G R t).0
         (taken_within G ready.admitted (largest s.message) (offsets_in s) (lifting_in s) (levels_under s values) t)
 
-    pub check_within_lem : within_judged (largest s.message) M.check_messages G.entries ≡ Judgement.Admitted
+    pub check_within_lem : within_judged (largest s.message) M.check_messages G.entries ≡ Ok tt
     unfolding halted
     check_within_lem = ap (λ (X : Memory). within_judged (largest s.message) X.check_messages G.entries) w.memory
         ∙ messages_small (largest s.message) small (state G R t).check_messages G.entries (drop G.entries M.check_messages) (list_lengths G R t).1

@@ -1,26 +1,27 @@
 // One head's run: up to its half of the allowance, and on by what the other head left.
-ghost use Rattle.std.specs.Prelude.{◌≡◌, false, ◌+◌, ◌≤◌};
-ghost use Rattle.words.specs.Roles.{graph_of};
+ghost use Rattle.std.specs.Prelude.{◌≡◌, true, false, List, ℕ, ◌+◌, ◌≤◌, ◌<◌, Ok};
+ghost use Rattle.rules.specs.Graphs.{Admitted};
+ghost use Rattle.rules.specs.Levels.{largest};
+ghost use Rattle.words.specs.Roles.{graph_lent};
+ghost use Rattle.settings.specs.Theorems.{Admissible};
 ghost use Rattle.steps.specs.Steps.{Degrees};
 ghost use Rattle.decoding.specs.Frames.{memory};
-ghost use Rattle.decoder.specs.Runs.{Ready};
+ghost use Rattle.decoder.specs.Runs.{Long, Ready};
 ghost use Rattle.pausing.specs.Records.{is_open};
-ghost use Rattle.pausing.specs.Exact.{Long};
+ghost use Rattle.pausing.specs.Pausing.{within_judged};
 ghost use Rattle.pairing.specs.Exact.{HaltsAt, left_by, verdict_of, report_of};
 
 use pausing::{Run, Standing};
 use rules::{Report, Verdict};
 use settings::Settings;
+use words::Graph;
 
-// Advances a run by up to `count` iterations more; one that has finished stays. The values are those that it was begun with, and are not looked at.
+// Advances a run by up to `count` iterations more; one that has finished stays.
 pub fn go_further(
     run: Run,
     count: usize,
-    s: Settings,
-    n: usize,
-    starts: &[u8],
-    columns: &[u8],
-    values: &[u8],
+    settings: Settings,
+    graph: Graph,
     degrees: &[u8],
     levels: &[u8],
     variable_messages: &mut [u8],
@@ -28,24 +29,20 @@ pub fn go_further(
     sums: &mut [u8],
     bits: &mut [u8],
 ) -> Run
-    requires ready { Ready s (graph_of n starts.now columns.now) values.now × Degrees (graph_of n starts.now columns.now) degrees.now }
-    requires long { Long (graph_of n starts.now columns.now) (memory levels.now variable_messages.old check_messages.old sums.old bits.old) }
-    requires halts_at { HaltsAt s (graph_of n starts.now columns.now) values.now run.iterations run (memory levels.now variable_messages.old check_messages.old sums.old bits.old) (memory levels.now variable_messages.old check_messages.old sums.old bits.old) }
-    ensures { HaltsAt s (graph_of n starts.now columns.now) values.now (run.iterations + count) result (memory levels.now variable_messages.old check_messages.old sums.old bits.old) (memory levels.now variable_messages.new check_messages.new sums.new bits.new) }
+    requires admissible { Admissible settings × Admitted (graph_lent graph) × Degrees (graph_lent graph) degrees.now }
+    requires long { Long (graph_lent graph) (memory levels.now variable_messages.old check_messages.old sums.old bits.old) }
+    requires below { is_open run.standing ≡ true → run.iterations < settings.limit }
+    requires within { (within_judged (largest settings.message) variable_messages.old (graph_lent graph).entries ≡ Ok tt) × (within_judged (largest settings.message) check_messages.old (graph_lent graph).entries ≡ Ok tt) }
+    ensures { (values : List ℕ) → Ready settings (graph_lent graph.entry) values → HaltsAt settings (graph_lent graph.entry) values run.iterations run (memory levels.now variable_messages.old check_messages.old sums.old bits.old) (memory levels.now variable_messages.old check_messages.old sums.old bits.old) → HaltsAt settings (graph_lent graph.entry) values (run.iterations + count) result (memory levels.now variable_messages.old check_messages.old sums.old bits.old) (memory levels.now variable_messages.new check_messages.new sums.new bits.new) }
 {
-    if !run.is_open() {
-        return run;
-    }
-    if count == 0 {
+    if !run.is_open() || count == 0 {
         return run;
     }
     pausing::exact::advance_within(
         run,
         count,
-        s,
-        n,
-        starts,
-        columns,
+        settings,
+        graph,
         levels,
         degrees,
         variable_messages,
@@ -58,10 +55,8 @@ pub fn go_further(
 // Begins the run of an accepted frame, and advances it by up to `half` iterations.
 pub fn start(
     half: usize,
-    s: Settings,
-    n: usize,
-    starts: &[u8],
-    columns: &[u8],
+    settings: Settings,
+    graph: Graph,
     values: &[u8],
     degrees: &[u8],
     levels: &mut [u8],
@@ -70,15 +65,13 @@ pub fn start(
     sums: &mut [u8],
     bits: &mut [u8],
 ) -> Run
-    requires ready { Ready s (graph_of n starts.now columns.now) values.now × Degrees (graph_of n starts.now columns.now) degrees.now }
-    requires long { Long (graph_of n starts.now columns.now) (memory levels.old variable_messages.old check_messages.old sums.old bits.old) }
-    ensures { HaltsAt s (graph_of n starts.now columns.now) values.now half result (memory levels.old variable_messages.old check_messages.old sums.old bits.old) (memory levels.new variable_messages.new check_messages.new sums.new bits.new) }
+    requires ready { Ready settings (graph_lent graph) values.now × Degrees (graph_lent graph) degrees.now }
+    requires long { Long (graph_lent graph) (memory levels.old variable_messages.old check_messages.old sums.old bits.old) }
+    ensures { HaltsAt settings (graph_lent graph.entry) values.now half result (memory levels.old variable_messages.old check_messages.old sums.old bits.old) (memory levels.new variable_messages.new check_messages.new sums.new bits.new) }
 {
     let run = pausing::exact::begin_within(
-        s,
-        n,
-        starts,
-        columns,
+        settings,
+        graph,
         values,
         levels,
         variable_messages,
@@ -89,11 +82,8 @@ pub fn start(
     go_further(
         run,
         half,
-        s,
-        n,
-        starts,
-        columns,
-        values,
+        settings,
+        graph,
         degrees,
         levels,
         variable_messages,
@@ -109,9 +99,10 @@ pub fn left_by(allowance: usize, half: usize, other: Run) -> usize
     ensures { result ≡ left_by allowance half other }
 {
     if other.is_open() {
-        return 0;
+        0
+    } else {
+        allowance - half - other.iterations
     }
-    allowance - half - other.iterations
 }
 
 // One that is still open was cut short, and is stopped there.
@@ -120,8 +111,7 @@ fn verdict_of(standing: Standing) -> Verdict
 {
     match standing {
         Standing::Codeword => Verdict::Codeword,
-        Standing::Stopped => Verdict::Stopped,
-        Standing::Open => Verdict::Stopped,
+        Standing::Stopped | Standing::Open => Verdict::Stopped,
     }
 }
 
@@ -129,9 +119,8 @@ fn verdict_of(standing: Standing) -> Verdict
 pub fn report_of(run: Run) -> Report
     ensures { result ≡ report_of run }
 {
-    let standing = run.standing;
     Report {
-        verdict: verdict_of(standing),
+        verdict: verdict_of(run.standing),
         iterations: run.iterations,
         unsatisfied: run.unsatisfied,
     }

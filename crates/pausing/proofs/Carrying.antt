@@ -1,4 +1,5 @@
 -- A run's state in lent memory, and what is carried on from it.
+use Rattle.std.specs.Prelude.{Ok}
 use mathlib.Core.Path.{◌≡◌, refl, ap, ap₂, ◌∙◌}
 use mathlib.Core.Bool.{Bool, true, false, not, cond, ◌||◌, true≢false}
 use mathlib.Core.List.{List, [], ◌∷◌, ◌++◌, map}
@@ -17,7 +18,6 @@ use Rattle.rules.specs.Graphs.{Graph, Admitted, unsatisfied}
 use Rattle.rules.specs.Nodes.{Offsets, Lifting}
 use Rattle.rules.specs.Sequence.{Scheme, State, sign_preserving, level_at, bit_at, begun, sent_in, sent, iterated, next, state}
 use Rattle.rules.specs.Halting.{ends, onward, onward_by, resumed}
-use Rattle.refusals.specs.declared.Judged.TheVariants as Judgement
 use Rattle.refusals.specs.declared.Refusal.TheVariants as Refusals
 use Rattle.rules.proofs.Ranges.{length_tabulate, get_d_tabulate, get_d_front}
 use Rattle.refusals.proofs.Judging.{true_all}
@@ -40,15 +40,15 @@ use Rattle.pausing.specs.Pausing.{handed, within_judged, refilled}
 pub kept : {A : Type 0} (l rest : List A) (n : ℕ) → length l ≡ n → n ≤ length rest → length (l ++ drop n rest) ≡ length rest
 kept l rest n e h = length-append l (drop n rest) ∙ omega (arith, length-drop n rest)
 
-pub within_all : (N : ℕ) (l : List ℕ) (n : ℕ) → ((k : ℕ) → k < n → (level_in l k).magnitude ≤ N) → within_judged N l n ≡ Judgement.Admitted
+pub within_all : (N : ℕ) (l : List ℕ) (n : ℕ) → ((k : ℕ) → k < n → (level_in l k).magnitude ≤ N) → within_judged N l n ≡ Ok tt
 unfolding within_judged
 within_all N l n h = true_all (λ k. leb (level_in l k).magnitude N) (λ k. Refusals.Advance) n (λ k u. le-leb (level_in l k).magnitude N (h k u))
 
-pub levels_within : (N : ℕ) → N < 128 → (y : ℕ → Level) (n : ℕ) (rest : List ℕ) → ((v : ℕ) → v < n → (y v).magnitude ≤ N) → within_judged N (tabulate (λ v. byte (y v)) n ++ rest) n ≡ Judgement.Admitted
+pub levels_within : (N : ℕ) → N < 128 → (y : ℕ → Level) (n : ℕ) (rest : List ℕ) → ((v : ℕ) → v < n → (y v).magnitude ≤ N) → within_judged N (tabulate (λ v. byte (y v)) n ++ rest) n ≡ Ok tt
 levels_within N s y n rest h = within_all N (tabulate (λ v. byte (y v)) n ++ rest) n
     (λ k u. rw (ap level_of (get_d_front (λ v. byte (y v)) n rest k 0 u) ∙ level_bytes.0 (y k) (omega (arith, h k u))) (h k u))
 
-pub messages_small : (N : ℕ) → N < 128 → (l : List Level) (n : ℕ) (rest : List ℕ) → length l ≡ n → ((e : ℕ) → e < n → (level_at l e).magnitude ≤ N) → within_judged N (map byte l ++ rest) n ≡ Judgement.Admitted
+pub messages_small : (N : ℕ) → N < 128 → (l : List Level) (n : ℕ) (rest : List ℕ) → length l ≡ n → ((e : ℕ) → e < n → (level_at l e).magnitude ≤ N) → within_judged N (map byte l ++ rest) n ≡ Ok tt
 messages_small N s l n rest e h = within_all N (map byte l ++ rest) n (λ k u. rw (read k u) (h k u))
   where
     read : (k : ℕ) → k < n → level_in (map byte l ++ rest) k ≡ level_at l k

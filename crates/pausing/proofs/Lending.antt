@@ -1,4 +1,5 @@
 -- Record and lent bytes of a list of advances are those of one run halted.
+use Rattle.std.specs.Prelude.{Ok, Err}
 use mathlib.Core.Path.{◌≡◌, refl, sym, ap, ap₂, ◌∙◌}
 use mathlib.Core.Bool.{Bool, true, false, not, cond, ◌&&◌, ◌||◌}
 use mathlib.Core.List.{List, [], ◌∷◌, ◌++◌, map}
@@ -15,12 +16,10 @@ use mir.Syntax.{w32}
 use mir.Val.{of_z}
 use Rattle.rules.specs.Ranges.{one, tabulate}
 use Rattle.rules.specs.Levels.{byte, largest}
-use Rattle.rules.specs.Graphs.{Graph, limits, Admitted, variable_degree, unsatisfied}
+use Rattle.rules.specs.Graphs.{Graph, limits, Admitted, variable_degree}
 use Rattle.rules.specs.Sequence.{Scheme, State, begun, state, unsatisfied_in, stop, final, report}
 use Rattle.rules.specs.Halting.{ends, onward_by, resumed, halted}
-use Rattle.refusals.specs.Refusals.{unless, or_else}
-use Rattle.refusals.specs.declared.Judged.{Judged}
-use Rattle.refusals.specs.declared.Judged.TheVariants as Judgement
+use Rattle.refusals.specs.Refusals.{unless, or_else, Judged}
 use Rattle.refusals.specs.declared.Refusal.TheVariants as Refusals
 use Rattle.rules.specs.declared.Verdict.TheVariants as Verdicts
 use Rattle.rules.proofs.Ranges.{length_tabulate}
@@ -67,7 +66,7 @@ ended_record G R limit =
 
 -- ---- a frame's runs in lent memory
 
-module _ (F : Frame) (M : Memory) (d : List ℕ) (h : decode_finds F (length d) (room_of M) ≡ Judgement.Admitted) where
+module _ (F : Frame) (M : Memory) (d : List ℕ) (h : decode_finds F (length d) (room_of M) ≡ Ok tt) where
   abbrev G : Graph
   G = graph F
 
@@ -86,16 +85,16 @@ module _ (F : Frame) (M : Memory) (d : List ℕ) (h : decode_finds F (length d) 
   abbrev g : Judged
   g = graph_judged_in limits G (length d)
 
-  told : (frame_judged F g ≡ Judgement.Admitted) × (enough n E (room_of M) ≡ true)
+  told : (frame_judged F g ≡ Ok tt) × (enough n E (room_of M) ≡ true)
   told = memory_told F g (room_of M) h
 
-  passed : (g ≡ Judgement.Admitted) × (asked_judged F ≡ Judgement.Admitted)
+  passed : (g ≡ Ok tt) × (asked_judged F ≡ Ok tt)
   passed = frame_passed F g told.0
 
   ok : Admitted G
   ok = lent_admitted G (length d) passed.0
 
-  settled : settings_judged F.asked ≡ Judgement.Admitted
+  settled : settings_judged F.asked ≡ Ok tt
   settled = (asked_told F passed.1).1
 
   good : Admissible (settings F.asked)
@@ -168,7 +167,7 @@ module _ (F : Frame) (M : Memory) (d : List ℕ) (h : decode_finds F (length d) 
         L : Judged
         L = unless (lifting_admitted F.asked) Refusals.Lifting
 
-        unscaled : or_else P (or_else O L) ≡ Judgement.Admitted
+        unscaled : or_else P (or_else O L) ≡ Ok tt
         unscaled = rw (or_else_left P _ settled, or_else_left O _ (or_else_right P _ settled), or_else_left L _ (or_else_right O _ (or_else_right P _ settled))) refl
 
     low : (v : ℕ) → v < n → (levels F v).magnitude < 128
@@ -182,7 +181,7 @@ module _ (F : Frame) (M : Memory) (d : List ℕ) (h : decode_finds F (length d) 
     refilled_as = refilled_is G ok (largest F.asked.message) (omega (arith, small)) (offsets_of F) (lifting_of F) (levels F) low M t
 
     -- one advance
-    advanced_lent : (k : ℕ) → lent_after (asked_of F k) Judgement.Admitted here ≡ lent (record_of G limit (resumed G R limit k σ)) (filled n E (levels F) (resumed G R limit k σ) M)
+    advanced_lent : (k : ℕ) → lent_after (asked_of F k) (Ok tt) here ≡ lent (record_of G limit (resumed G R limit k σ)) (filled n E (levels F) (resumed G R limit k σ) M)
     unfolding resumed
     advanced_lent zero = refl
     advanced_lent (suc k) =
@@ -210,7 +209,7 @@ module _ (F : Frame) (M : Memory) (d : List ℕ) (h : decode_finds F (length d) 
 
         go : (b : Bool) → admits limit k (record_of G limit (halted G R limit j)) ≡ b → lent_after (asked_of F k) (found F k at) at.lent ≡ lent_at (sum (count_if F (found F k at) k))
         go true e =
-            let f : found F k at ≡ Judgement.Admitted = found_is ∙ ap (λ b. unless b Refusals.Advance) e in
+            let f : found F k at ≡ (Ok tt) = found_is ∙ ap (λ b. unless b Refusals.Advance) e in
             let l : j < stop G R limit = running (dec_lt j (stop G R limit)) in
             ap (λ i. lent_after (asked_of F k) i at.lent) f ∙ advanced_lent (min j (stop G R limit)) k
             ∙ ap lent_at ((run_halts G R limit).resumes j k l) ∙ ap (λ i. lent_at (sum (count_if F i k))) (sym f)
@@ -221,7 +220,7 @@ module _ (F : Frame) (M : Memory) (d : List ℕ) (h : decode_finds F (length d) 
                 let o = and_left (is_open (record_of G limit (halted G R limit j)).standing) _ e in
                 let c : ◌≡◌ {A = ℕ} 0 1 = cc (((run_halts G R limit).over j (omega arith)).1, not-true (ends G R limit (halted G R limit j)) (sym (open_is G R limit (halted G R limit j)) ∙ o)) in absurd (omega arith)
         go false e =
-            let f : found F k at ≡ Judgement.Refused Refusals.Advance = found_is ∙ ap (λ b. unless b Refusals.Advance) e in
+            let f : found F k at ≡ Err Refusals.Advance = found_is ∙ ap (λ b. unless b Refusals.Advance) e in
             ap (λ i. lent_after (asked_of F k) i at.lent) f ∙ ap (λ c. lent_at (halted G R limit c)) (sym (add-zero j)) ∙ ap (λ i. lent_at (sum (count_if F i k))) (sym f)
 
   -- all of a list

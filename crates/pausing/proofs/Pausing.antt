@@ -1,4 +1,5 @@
 -- Begin and advance in lent memory: their refusals in order, and the bytes past the lists.
+use Rattle.std.specs.Prelude.{Ok, Err}
 use mathlib.Core.Path.{◌≡◌, refl, sym, ap, ap₂, ◌∙◌, subst}
 use mathlib.Core.Bool.{Bool, true, false, cond, ◌&&◌, ◌||◌}
 use mathlib.Core.List.{List, [], ◌∷◌, ◌++◌, map}
@@ -9,18 +10,16 @@ use borrow.Author.Tests.{eq-eqb, ne_eqb, leb-true, leb-false, ltb-true}
 use lib.Dec.{eqb, leb, ltb}
 use lib.Ieee.{of_int, lt}
 use lib.ListN.{length, get_or, take, drop, get_or-map, get_or-eq_default}
+use lib.Seq.{length-take-le}
 use Rattle.rules.specs.Levels.{byte, level_of, largest}
 use Rattle.rules.specs.Graphs.{Graph, limits, Admitted, unsatisfied}
-use Rattle.rules.specs.Nodes.{Lifting}
 use Rattle.rules.specs.Sequence.{Scheme, State, level_at, bit_at, begun, iterated, next}
 use Rattle.rules.specs.Halting.{ends, onward, onward_by, resumed}
-use Rattle.refusals.specs.Refusals.{unless, or_else}
-use Rattle.refusals.specs.declared.Judged.{Judged}
-use Rattle.refusals.specs.declared.Judged.TheVariants as Judgement
+use Rattle.refusals.specs.Refusals.{unless, or_else, Judged}
 use Rattle.refusals.specs.declared.Refusal.{Refusal}
 use Rattle.refusals.specs.declared.Refusal.TheVariants as Refusals
 use Rattle.rules.proofs.Own.{level_bytes}
-use Rattle.refusals.proofs.Judging.{or_else_left, or_else_right, or_else_none, unless_true, all_true}
+use Rattle.refusals.proofs.Judging.{or_else_left, or_else_right, or_else_none, unless_true, all_true, each_same}
 use Rattle.rules.proofs.Tests.{and_left, and_right}
 use Rattle.rules.proofs.Halting.{resumed_limit}
 use Rattle.rules.proofs.Same.{begun_same}
@@ -29,10 +28,8 @@ use Rattle.graphs.specs.Judging.{graph_judged_in}
 use Rattle.graphs.specs.Degrees as Lists
 use Rattle.graphs.proofs.Lending.{lent_admitted, lent_counted}
 use Rattle.settings.specs.declared.Settings.{Settings}
-use Rattle.settings.specs.declared.Checked.{Checked}
-use Rattle.settings.specs.declared.Checked.TheVariants as Checks
+use Rattle.settings.specs.Settings.{Checked, settings, settings_judged, precisions_admitted, options_admitted, lifting_admitted, checked, settings_of}
 use Rattle.settings.specs.Scaling.{positive}
-use Rattle.settings.specs.Settings.{settings, settings_judged, precisions_admitted, options_admitted, lifting_admitted, checked, settings_of}
 use Rattle.settings.specs.Theorems.{Admissible}
 use Rattle.settings.proofs.Accepted.{good_settings}
 use Rattle.nodes.specs.Memory.{level_in}
@@ -42,15 +39,14 @@ use Rattle.decoding.specs.declared.Room.{Room}
 use Rattle.decoding.specs.Decoding.{Frame, Memory, room_of, enough, graph, decode_finds}
 use Rattle.decoding.specs.Decoding as Decoding
 use Rattle.decoding.specs.Frames.{memory}
-use Rattle.decoder.specs.Runs.{levels_under, Ready, BeginsFrom}
+use Rattle.decoder.specs.Runs.{Long, levels_under, Ready, BeginsFrom}
 use Rattle.decoding.proofs.Accepting.{checked_refused, checked_good, checked_same, enough_told}
 use Rattle.decoder.proofs.Beginning.{levels_told, counted_degrees}
 use Rattle.pausing.specs.declared.Run.{Run}
 use Rattle.pausing.specs.declared.Unscaled.{Unscaled}
-use Rattle.pausing.specs.declared.Begun.TheVariants as Begins
 use Rattle.pausing.specs.Records.{is_open, record_at, record_of, admits}
 use Rattle.pausing.specs.Pausing.{begun_answer, begun_memory, Begins, Lent, lent, Asked, scaled, unscaled_judged, handed, within_judged, refilled, graph_asked, limit_asked, scheme_asked, resume_judged, advance_judged, advance_finds, state_after, lent_after, Advances}
-use Rattle.pausing.specs.Exact.{asked_finds, Accepts, Long, BeginsExactly, BeginsInto, AdvancesExactly, AdvancesInto}
+use Rattle.pausing.specs.Exact.{asked_finds, Accepts, BeginsExactly, BeginsInto, AdvancesExactly, AdvancesInto}
 
 -- ---- memory
 
@@ -130,7 +126,14 @@ take_at (suc n) [] k l = refl
 take_at (suc n) (b ∷ q) zero l = refl
 take_at (suc n) (b ∷ q) (suc k) l = take_at n q k (omega arith)
 
-module _ (N E : ℕ) (q : List ℕ) (bytes : (k : ℕ) → get_or q k 0 < 256) (within : within_judged N q E ≡ Judgement.Admitted) where
+-- what is judged of the first n bytes
+pub within_front : {N M n : ℕ} {j : Judged} (l : List ℕ) → N ≡ M → n ≤ length l → j ≡ within_judged N (take n l) (length (take n l)) → within_judged M l n ≡ j
+unfolding within_judged
+within_front {N} {M} {n} l e h w =
+    sym (w ∙ ap (within_judged N (take n l)) (length-take-le n l h)
+    ∙ each_same _ _ n (λ k u. ap (λ (b : ℕ). unless (leb (level_of b).magnitude N) Refusals.Advance) (take_at n l k u)) ∙ ap (λ (k : ℕ). within_judged k l n) e)
+
+module _ (N E : ℕ) (q : List ℕ) (bytes : (k : ℕ) → get_or q k 0 < 256) (within : within_judged N q E ≡ Ok tt) where
   handed_within : (e : ℕ) → (level_at (map level_of (take E q)) e).magnitude ≤ N
   unfolding level_of within_judged
   handed_within e = rw (get_or-map level_of (take E q) e 0) (go (dec_lt e E))
@@ -147,7 +150,7 @@ module _ (N E : ℕ) (q : List ℕ) (bytes : (k : ℕ) → get_or q k 0 < 256) (
   pub handed_in : InBytes N (map level_of (take E q)) (take E q)
   handed_in = record { is = sym (bytes_back (take E q) (take_byte E q bytes)); within = handed_within }
 
-pub given_handed : (N E : ℕ) (p : Run) (q C : List ℕ) → ((k : ℕ) → get_or q k 0 < 256) → ((k : ℕ) → get_or C k 0 < 256) → within_judged N q E ≡ Judgement.Admitted → within_judged N C E ≡ Judgement.Admitted
+pub given_handed : (N E : ℕ) (p : Run) (q C : List ℕ) → ((k : ℕ) → get_or q k 0 < 256) → ((k : ℕ) → get_or C k 0 < 256) → within_judged N q E ≡ Ok tt → within_judged N C E ≡ Ok tt
     → Given N (handed p (take E q) (take E C)) p.iterations (take E q) (take E C)
 given_handed N E p q C bq bC wq wC = record { number = refl; variable_messages = handed_in N E q bq wq; check_messages = handed_in N E C bC wC }
 
@@ -163,23 +166,23 @@ begins_exactly {s} G values ready {y} {q} {C} {S} {b} w e f = record { run = rec
     h = subst (λ σ. Holds G σ q C S b) (begun_same G ready.admitted (largest s.message) (offsets_in s) (lifting_in s) (level_in y) (levels_under s values) (levels_told ready.settings G.variables values w.levels)) w.holds
 
 module _ (F : Frame) (M : Memory) {d d' : List ℕ} {a : Checked} (accepts : Decoding.Accepts F (room_of M) a d d') where
-  pub begins_refused : {r : Refusal} → a ≡ Checks.Refused r → Begins F M M d d' (Begins.Refused r)
+  pub begins_refused : {r : Refusal} → a ≡ Err r → Begins F M M d d' (Err r)
   begins_refused {r} e = record { answer = sym (ap (begun_answer F) h); memory = sym (ap (λ j. begun_memory F j M) h); degrees = accepts.degrees }
     where
-      h : decode_finds F (length d) (room_of M) ≡ Judgement.Refused r
+      h : decode_finds F (length d) (room_of M) ≡ Err r
       h = checked_refused (decode_finds F (length d) (room_of M)) (settings F.asked) (sym accepts.answer ∙ e)
 
-  pub begins_at : {s : Settings} → a ≡ Checks.Good s → {M' : Memory} {r : Run} → BeginsInto s (graph F) F.values r M M' → Begins F M M' d d' (Begins.At r)
+  pub begins_at : {s : Settings} → a ≡ Ok s → {M' : Memory} {r : Run} → BeginsInto s (graph F) F.values r M M' → Begins F M M' d d' (Ok r)
   begins_at {s} e {M'} {r} w = record {
-    answer = ap Begins.At run.run ∙ sym (ap (begun_answer F) h);
+    answer = ap Ok run.run ∙ sym (ap (begun_answer F) h);
     memory = run.memory ∙ sym (ap (λ j. begun_memory F j M) h);
     degrees = accepts.degrees;
   }
     where
-      told : checked (decode_finds F (length d) (room_of M)) (settings F.asked) ≡ Checks.Good s
+      told : checked (decode_finds F (length d) (room_of M)) (settings F.asked) ≡ Ok s
       told = sym accepts.answer ∙ e
 
-      h : decode_finds F (length d) (room_of M) ≡ Judgement.Admitted
+      h : decode_finds F (length d) (room_of M) ≡ Ok tt
       h = checked_good (decode_finds F (length d) (room_of M)) (settings F.asked) told
 
       run : BeginsInto (settings F.asked) (graph F) F.values r M M'
@@ -194,43 +197,43 @@ plain_judged u =
     ap (λ j. or_else (unless (precisions_admitted u.channel u.message) Refusals.Precision) (or_else (unless (options_admitted (scaled u)) Refusals.Option) j))
     (or_else_none (unless (lifting_admitted (scaled u)) Refusals.Lifting))
 
-module _ (A : Asked) (m : Room) {g : Judged} {d d' : List ℕ} (checks : Lists.Checks limits (graph_asked A) g d d') where
-  accepts_as : {j : Judged} {a : Checked} → asked_finds A (length d) m ≡ j → a ≡ checked j (settings (scaled A.settings)) → Accepts A m a d d'
-  accepts_as h q = record { answer = q ∙ ap (λ j. checked j (settings (scaled A.settings))) (sym h); degrees = checks.degrees }
+module _ (G : Graph) (u : Unscaled) (m : Room) {g : Judged} {d d' : List ℕ} (checks : Lists.Checks limits G g d d') where
+  accepts_as : {j : Judged} {a : Checked} → asked_finds G u (length d) m ≡ j → a ≡ checked j (settings (scaled u)) → Accepts G u m a d d'
+  accepts_as h q = record { answer = q ∙ ap (λ j. checked j (settings (scaled u))) (sym h); degrees = checks.degrees }
 
-  pub graph_refused : {r : Refusal} → g ≡ Judgement.Refused r → Accepts A m (Checks.Refused r) d d'
-  graph_refused {r} e = accepts_as {j = Judgement.Refused r} (rw (sym checks.answer ∙ e) refl) refl
+  pub graph_refused : {r : Refusal} → g ≡ Err r → Accepts G u m (Err r) d d'
+  graph_refused {r} e = accepts_as {j = Err r} (rw (sym checks.answer ∙ e) refl) refl
 
-  module _ (good : g ≡ Judgement.Admitted) where
-    pub graph_good : Admitted (graph_asked A)
-    graph_good = lent_admitted (graph_asked A) (length d) (sym checks.answer ∙ good)
+  module _ (good : g ≡ Ok tt) where
+    pub graph_good : Admitted G
+    graph_good = lent_admitted G (length d) (sym checks.answer ∙ good)
 
-    pub settings_refused : {a : Checked} {r : Refusal} → a ≡ settings_of (scaled A.settings) → a ≡ Checks.Refused r → Accepts A m a d d'
+    pub settings_refused : {a : Checked} {r : Refusal} → a ≡ settings_of (scaled u) → a ≡ Err r → Accepts G u m (Err r) d d'
     unfolding settings_of
-    settings_refused {a} {r} e f = accepts_as {j = Judgement.Refused r} (rw (sym checks.answer ∙ good, sym (plain_judged A.settings) ∙ checked_refused (settings_judged (scaled A.settings)) (settings (scaled A.settings)) (sym e ∙ f)) refl) f
+    settings_refused {a} {r} e f = accepts_as {j = Err r} (rw (sym checks.answer ∙ good, sym (plain_judged u) ∙ checked_refused (settings_judged (scaled u)) (settings (scaled u)) (sym e ∙ f)) refl) refl
 
-    module _ {a : Checked} {s : Settings} (e : a ≡ settings_of (scaled A.settings)) (f : a ≡ Checks.Good s) where
-      settled : unscaled_judged A.settings ≡ Judgement.Admitted
+    module _ {a : Checked} {s : Settings} (e : a ≡ settings_of (scaled u)) (f : a ≡ Ok s) where
+      settled : unscaled_judged u ≡ Ok tt
       unfolding settings_of
-      settled = sym (plain_judged A.settings) ∙ checked_good (settings_judged (scaled A.settings)) (settings (scaled A.settings)) (sym e ∙ f)
+      settled = sym (plain_judged u) ∙ checked_good (settings_judged (scaled u)) (settings (scaled u)) (sym e ∙ f)
 
-      pub memory_refused : enough A.variables (graph_asked A).entries m ≡ false → Accepts A m (Checks.Refused Refusals.Buffer) d d'
-      memory_refused h = accepts_as {j = Judgement.Refused Refusals.Buffer} (rw (sym checks.answer ∙ good, settled, h) refl) refl
+      pub memory_refused : enough G.variables G.entries m ≡ false → Accepts G u m (Err Refusals.Buffer) d d'
+      memory_refused h = accepts_as {j = Err Refusals.Buffer} (rw (sym checks.answer ∙ good, settled, h) refl) refl
 
-      pub all_accepted : enough A.variables (graph_asked A).entries m ≡ true → Accepts A m (Checks.Good s) d d'
+      pub all_accepted : enough G.variables G.entries m ≡ true → Accepts G u m (Ok s) d d'
       unfolding settings_of
-      all_accepted h = accepts_as {j = Judgement.Admitted} (rw (sym checks.answer ∙ good, settled, h) refl) (sym f ∙ e ∙ ap (λ j. checked j (settings (scaled A.settings))) (checked_good (settings_judged (scaled A.settings)) (settings (scaled A.settings)) (sym e ∙ f)))
+      all_accepted h = accepts_as {j = (Ok tt)} (rw (sym checks.answer ∙ good, settled, h) refl) (sym f ∙ e ∙ ap (λ j. checked j (settings (scaled u))) (checked_good (settings_judged (scaled u)) (settings (scaled u)) (sym e ∙ f)))
 
 -- ---- the answers of an advance
 
 or_assoc : (a b c d : Judged) → or_else a (or_else b (or_else c d)) ≡ or_else (or_else a (or_else b c)) d
-or_assoc Judgement.Admitted Judgement.Admitted c d = refl
-or_assoc Judgement.Admitted (Judgement.Refused r) c d = refl
-or_assoc (Judgement.Refused r) b c d = refl
+or_assoc (Ok _) (Ok _) c d = refl
+or_assoc (Ok _) (Err r) c d = refl
+or_assoc (Err r) b c d = refl
 
-module _ (A : Asked) (z : Lent) {d d' : List ℕ} {a : Checked} (accepts : Accepts A (room_of z.memory) a d d') where
+module _ (A : Asked) (z : Lent) {d d' : List ℕ} {a : Checked} (accepts : Accepts (graph_asked A) A.settings (room_of z.memory) a d d') where
   abbrev before_record : Judged
-  before_record = asked_finds A (length d) (room_of z.memory)
+  before_record = asked_finds (graph_asked A) A.settings (length d) (room_of z.memory)
 
   finds_is : advance_finds A (length d) z ≡ or_else before_record (resume_judged A z)
   unfolding advance_judged
@@ -239,26 +242,26 @@ module _ (A : Asked) (z : Lent) {d d' : List ℕ} {a : Checked} (accepts : Accep
   answers : {j : Judged} {z' : Lent} → advance_finds A (length d) z ≡ j → z' ≡ lent_after A j z → Advances A z z' d d' j
   answers h w = record { answer = sym h; lent = w ∙ ap (λ j. lent_after A j z) (sym h); degrees = accepts.degrees }
 
-  pub advances_refused : {r : Refusal} → a ≡ Checks.Refused r → Advances A z z d d' (Judgement.Refused r)
+  pub advances_refused : {r : Refusal} → a ≡ Err r → Advances A z z d d' (Err r)
   advances_refused e = answers (finds_is ∙ ap (λ j. or_else j (resume_judged A z)) (checked_refused before_record (settings (scaled A.settings)) (sym accepts.answer ∙ e))) refl
 
-  module _ {s : Settings} (e : a ≡ Checks.Good s) where
-    told : checked before_record (settings (scaled A.settings)) ≡ Checks.Good s
+  module _ {s : Settings} (e : a ≡ Ok s) where
+    told : checked before_record (settings (scaled A.settings)) ≡ Ok s
     told = sym accepts.answer ∙ e
 
     pub same : settings (scaled A.settings) ≡ s
     same = checked_same before_record (settings (scaled A.settings)) told
 
-    passed : before_record ≡ Judgement.Admitted
+    passed : before_record ≡ Ok tt
     passed = checked_good before_record (settings (scaled A.settings)) told
 
     abbrev rest : Judged
     rest = or_else (unscaled_judged A.settings) (unless (enough A.variables (graph_asked A).entries (room_of z.memory)) Refusals.Buffer)
 
-    graph_passed : graph_judged_in limits (graph_asked A) (length d) ≡ Judgement.Admitted
+    graph_passed : graph_judged_in limits (graph_asked A) (length d) ≡ Ok tt
     graph_passed = or_else_left (graph_judged_in limits (graph_asked A) (length d)) rest passed
 
-    rest_passed : rest ≡ Judgement.Admitted
+    rest_passed : rest ≡ Ok tt
     rest_passed = or_else_right (graph_judged_in limits (graph_asked A) (length d)) rest passed
 
     pub accepted_graph : Admitted (graph_asked A)
@@ -287,25 +290,25 @@ module _ (A : Asked) (z : Lent) {d d' : List ℕ} {a : Checked} (accepts : Accep
           (or_else (within_judged (largest t.message) z.memory.variable_messages (graph_asked A).entries) (within_judged (largest t.message) z.memory.check_messages (graph_asked A).entries)))) same
           ∙ sym judged
 
-      pub resume_refused : {r : Refusal} → j ≡ Judgement.Refused r → Advances A z z d d' (Judgement.Refused r)
+      pub resume_refused : {r : Refusal} → j ≡ Err r → Advances A z z d d' (Err r)
       resume_refused h = answers (found ∙ h) refl
 
-      module _ (h : j ≡ Judgement.Admitted) where
-        pub advances_none : A.count ≡ 0 → Advances A z z d d' Judgement.Admitted
+      module _ (h : j ≡ Ok tt) where
+        pub advances_none : A.count ≡ 0 → Advances A z z d d' (Ok tt)
         advances_none n = answers (found ∙ h) (rw (eq-eqb A.count 0 n) refl)
 
         admitted : or_else (unless (admits s.limit A.count z.run) Refusals.Advance)
             (or_else (within_judged (largest s.channel) z.memory.levels A.variables)
-            (or_else (within_judged (largest s.message) z.memory.variable_messages (graph_asked A).entries) (within_judged (largest s.message) z.memory.check_messages (graph_asked A).entries))) ≡ Judgement.Admitted
+            (or_else (within_judged (largest s.message) z.memory.variable_messages (graph_asked A).entries) (within_judged (largest s.message) z.memory.check_messages (graph_asked A).entries))) ≡ Ok tt
         admitted = sym judged ∙ h
 
-        bytes : or_else (within_judged (largest s.message) z.memory.variable_messages (graph_asked A).entries) (within_judged (largest s.message) z.memory.check_messages (graph_asked A).entries) ≡ Judgement.Admitted
+        bytes : or_else (within_judged (largest s.message) z.memory.variable_messages (graph_asked A).entries) (within_judged (largest s.message) z.memory.check_messages (graph_asked A).entries) ≡ Ok tt
         bytes = or_else_right (within_judged (largest s.channel) z.memory.levels A.variables) _ (or_else_right (unless (admits s.limit A.count z.run) Refusals.Advance) _ admitted)
 
-        pub variable_within : within_judged (largest s.message) z.memory.variable_messages (graph_asked A).entries ≡ Judgement.Admitted
+        pub variable_within : within_judged (largest s.message) z.memory.variable_messages (graph_asked A).entries ≡ Ok tt
         variable_within = or_else_left (within_judged (largest s.message) z.memory.variable_messages (graph_asked A).entries) _ bytes
 
-        pub check_within_lem : within_judged (largest s.message) z.memory.check_messages (graph_asked A).entries ≡ Judgement.Admitted
+        pub check_within_lem : within_judged (largest s.message) z.memory.check_messages (graph_asked A).entries ≡ Ok tt
         check_within_lem = or_else_right (within_judged (largest s.message) z.memory.variable_messages (graph_asked A).entries) _ bytes
 
         pub resumable_below : z.run.iterations < s.limit
@@ -317,7 +320,7 @@ module _ (A : Asked) (z : Lent) {d d' : List ℕ} {a : Checked} (accepts : Accep
         pub advances_on : (A.count ≡ 0 → ⊥) → {r : Run} {M' : Memory}
             → AdvancesInto (graph_asked A) (rules_under s (graph_asked A) (level_in (take A.variables z.memory.levels))) s.limit A.count
             (handed z.run (take (graph_asked A).entries z.memory.variable_messages) (take (graph_asked A).entries z.memory.check_messages)) r z.memory M'
-            → Advances A z (lent r M') d d' Judgement.Admitted
+            → Advances A z (lent r M') d d' (Ok tt)
         advances_on n {r} {M'} w = answers (found ∙ h) (ap₂ lent run.run run.memory ∙ ap (λ b. cond b z (lent (record_of (graph_asked A) (limit_asked A) (state_after A z)) (refilled A.variables (graph_asked A).entries (state_after A z) z.memory))) (sym (ne_eqb A.count 0 n)))
           where
             run : AdvancesInto (graph_asked A) (scheme_asked A z.memory.levels) (limit_asked A) A.count

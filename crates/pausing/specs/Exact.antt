@@ -1,43 +1,34 @@
 -- What the parts of begin and advance do.
-use Rattle.std.specs.Prelude.{◌≡◌, List, ℕ, ◌*◌, ◌≤◌, length}
+use Rattle.std.specs.Prelude.{◌≡◌, List, ℕ, length}
 use Rattle.rules.specs.Ranges.{tabulate}
 use Rattle.rules.specs.Levels.{byte}
 use Rattle.rules.specs.Graphs.{Graph, limits}
 use Rattle.rules.specs.Sequence.{Scheme, State, begun}
 use Rattle.rules.specs.Halting.{resumed}
-use Rattle.refusals.specs.Refusals.{unless, or_else}
-use Rattle.refusals.specs.declared.Judged.{Judged}
+use Rattle.refusals.specs.Refusals.{unless, or_else, Judged}
 use Rattle.refusals.specs.declared.Refusal.TheVariants as Refusals
 use Rattle.graphs.specs.Judging.{countable, graph_judged_in}
 use Rattle.graphs.specs.Degrees.{degrees_in}
 use Rattle.settings.specs.declared.Settings.{Settings}
-use Rattle.settings.specs.declared.Checked.{Checked}
-use Rattle.settings.specs.Settings.{settings, checked}
+use Rattle.settings.specs.Settings.{Checked, settings, checked}
 use Rattle.steps.specs.Steps.{Holds, rules_under}
 use Rattle.decoding.specs.declared.Room.{Room}
 use Rattle.decoding.specs.Decoding.{Memory, enough, filled}
 use Rattle.decoder.specs.Runs.{levels_under}
 use Rattle.pausing.specs.declared.Run.{Run}
+use Rattle.pausing.specs.declared.Unscaled.{Unscaled}
 use Rattle.pausing.specs.Records.{record_of}
-use Rattle.pausing.specs.Pausing.{Asked, graph_asked, unscaled_judged, scaled, refilled}
+use Rattle.pausing.specs.Pausing.{unscaled_judged, scaled, refilled}
 
 -- What is refused before the record is looked at: the graph's, 8, 9, 16 and 6.
-abbrev pub asked_finds : Asked → ℕ → Room → Judged
-asked_finds A d m =
-    or_else (graph_judged_in limits (graph_asked A) d)
-    (or_else (unscaled_judged A.settings) (unless (enough A.variables (graph_asked A).entries m) Refusals.Buffer))
+abbrev pub asked_finds : Graph → Unscaled → ℕ → Room → Judged
+asked_finds G u d m =
+    or_else (graph_judged_in limits G d)
+    (or_else (unscaled_judged u) (unless (enough G.variables G.entries m) Refusals.Buffer))
 
-pub record Accepts (A : Asked) (m : Room) (r : Checked) (old now : List ℕ) : Type 0 where
-  pub answer : r ≡ checked (asked_finds A (length old) m) (settings (scaled A.settings))
-  pub degrees : now ≡ degrees_in (countable limits (graph_asked A) (length old)) (graph_asked A) old
-
--- Memory that is long enough.
-pub record Long (G : Graph) (M : Memory) : Type 0 where
-  pub levels : G.variables ≤ length M.levels
-  pub variable_messages : G.entries ≤ length M.variable_messages
-  pub check_messages : G.entries ≤ length M.check_messages
-  pub sums : 4 * G.variables ≤ length M.sums
-  pub bits : G.variables ≤ length M.bits
+pub record Accepts (G : Graph) (u : Unscaled) (m : Room) (r : Checked) (old now : List ℕ) : Type 0 where
+  pub answer : r ≡ checked (asked_finds G u (length old) m) (settings (scaled u))
+  pub degrees : now ≡ degrees_in (countable limits G (length old)) G old
 
 -- The record of a frame's iteration 0, and the lists y, q, C, S and b afterwards; then the same in memory that may be longer.
 pub record BeginsExactly (s : Settings) (G : Graph) (values : List ℕ) (r : Run) (y q C S b : List ℕ) : Type 0 where

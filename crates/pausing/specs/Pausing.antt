@@ -1,16 +1,15 @@
 -- Document 02, item 6, on lent memory: what begin and advance refuse, what they answer, and every lent byte afterwards.
-use Rattle.std.specs.Prelude.{◌≡◌, cond, List, [], ◌++◌, map, ℕ, ◌*◌, eqb, leb, pos, length, get_or, take, drop}
+use Rattle.std.specs.Prelude.{◌≡◌, cond, List, [], ◌++◌, map, ℕ, ◌*◌, eqb, leb, pos, length, get_or, take, drop, Ok, Err, Result}
 use Rattle.rules.specs.Ranges.{one}
 use Rattle.rules.specs.Levels.{byte, level_of, largest}
 use Rattle.rules.specs.Graphs.{Graph, limits}
 use Rattle.rules.specs.Nodes.{Offsets, Lifting}
 use Rattle.rules.specs.Sequence.{Scheme, State, sign_preserving, begun}
 use Rattle.rules.specs.Halting.{resumed}
-use Rattle.refusals.specs.Refusals.{unless, or_else, each}
-use Rattle.refusals.specs.declared.Judged.{Judged}
-use Rattle.refusals.specs.declared.Judged.TheVariants as Judgement
+use Rattle.refusals.specs.Refusals.{unless, or_else, each, Judged}
 use Rattle.refusals.specs.declared.Refusal.TheVariants as Refusals
 use Rattle.words.specs.Roles.{sum_table, graph_of}
+use Rattle.words.specs.declared.Graph as Lists
 use Rattle.graphs.specs.Judging.{countable, graph_judged_in}
 use Rattle.graphs.specs.Degrees.{degrees_in}
 use Rattle.settings.specs.declared.Parameters.{Parameters}
@@ -21,20 +20,23 @@ use Rattle.nodes.specs.Memory.{level_in}
 use Rattle.decoding.specs.Decoding.{Frame, Memory, room_of, enough, graph, levels, scheme, decode_finds, filled}
 use Rattle.pausing.specs.declared.Run.{Run}
 use Rattle.pausing.specs.declared.Unscaled.{Unscaled}
-use Rattle.pausing.specs.declared.Begun.{Begun}
-use Rattle.pausing.specs.declared.Begun.TheVariants.{At, Refused}
 use Rattle.pausing.specs.Records.{record_of, admits}
+use Rattle.refusals.specs.declared.Refusal.{Refusal}
 
 -- ---- begin
 
+-- The record of a begun run, or the refusal.
+abbrev pub Begun : Type 0
+Begun = Result Run Refusal
+
 -- 'Begin refuses as decode', and leaves iteration 0 in the lent memory.
 abbrev pub begun_answer : Frame → Judged → Begun
-begun_answer F Judgement.Admitted = At (record_of (graph F) F.asked.limit (begun (graph F) (scheme F)))
-begun_answer F (Judgement.Refused r) = Refused r
+begun_answer F (Ok _) = Ok (record_of (graph F) F.asked.limit (begun (graph F) (scheme F)))
+begun_answer F (Err r) = Err r
 
 abbrev pub begun_memory : Frame → Judged → Memory → Memory
-begun_memory F Judgement.Admitted M = filled F.variables (graph F).entries (levels F) (begun (graph F) (scheme F)) M
-begun_memory F (Judgement.Refused r) M = M
+begun_memory F (Ok _) M = filled F.variables (graph F).entries (levels F) (begun (graph F) (scheme F)) M
+begun_memory F (Err r) M = M
 
 -- What begin promises of its answer r, of the memory, M before and M' after, and of the list of degrees, d before and d' after.
 pub record Begins (F : Frame) (M M' : Memory) (d d' : List ℕ) (r : Begun) : Type 0 where
@@ -43,6 +45,15 @@ pub record Begins (F : Frame) (M M' : Memory) (d d' : List ℕ) (r : Begun) : Ty
   pub degrees : d' ≡ degrees_in (countable limits (graph F) (length d)) (graph F) d
 
 -- ---- advance
+
+-- What is judged where an advance answers a record or a refusal, and the record that the caller has then: its own where it is refused.
+abbrev pub judged_of : Result Run Refusal → Judged
+judged_of (Ok p) = Ok tt
+judged_of (Err r) = Err r
+
+abbrev pub record_after : Run → Result Run Refusal → Run
+record_after p (Ok p') = p'
+record_after p (Err r) = p
 
 -- What the caller keeps between two advances, beside the list of degrees: the record and the memory.
 pub record Lent : Type 0 where
@@ -62,6 +73,10 @@ pub record Asked : Type 0 where
 
 abbrev pub asked : ℕ → List ℕ → List ℕ → Unscaled → ℕ → Asked
 asked n starts columns u k = record { variables = n; starts = starts; columns = columns; settings = u; count = k }
+
+-- The same on a graph that is lent.
+abbrev pub asked_lent : Lists.Graph → Unscaled → ℕ → Asked
+asked_lent g u k = asked g.variables g.starts.now g.columns.now u k
 
 -- The settings with a scaling, which nothing reads.
 abbrev pub scaled : Unscaled → Parameters
@@ -147,10 +162,10 @@ module _ (A : Asked) where
 
   -- 'An advance of 0 and a refused one change nothing.'
   abbrev pub lent_after : Judged → Lent → Lent
-  lent_after Judgement.Admitted z =
+  lent_after (Ok _) z =
       cond (eqb A.count 0) z
       (lent (record_of graph_asked limit_asked (state_after z)) (refilled A.variables graph_asked.entries (state_after z) z.memory))
-  lent_after (Judgement.Refused r) z = z
+  lent_after (Err r) z = z
 
 -- What an advance promises of what it judges, from any record and any bytes; of these, z before and z' after; and of the list of degrees, d before
 -- and d' after.

@@ -1,11 +1,10 @@
 -- Document 02, item 6: what is promised of every list of advances, over the very definitions in the contracts of begin, advance and decode.
-use Rattle.std.specs.Prelude.{◌≡◌, Bool, List, [], ◌∷◌, ℕ, ◌+◌, ◌<◌, length}
+use Rattle.std.specs.Prelude.{◌≡◌, Bool, List, [], ◌∷◌, ℕ, ◌+◌, ◌<◌, length, Ok, Err}
 use Rattle.std.specs.Bool.{xor}
 use Rattle.rules.specs.Graphs.{limits, Codeword}
 use Rattle.rules.specs.Sequence.{State, bit_at, begun, final, report}
 use Rattle.rules.specs.Halting.{halted}
-use Rattle.refusals.specs.declared.Judged.{Judged}
-use Rattle.refusals.specs.declared.Judged.TheVariants.{Admitted, Refused}
+use Rattle.refusals.specs.Refusals.{Judged}
 use Rattle.graphs.specs.Judging.{countable}
 use Rattle.graphs.specs.Degrees.{degrees_in}
 use Rattle.settings.specs.Reversal.{Bytes}
@@ -50,8 +49,8 @@ module _ (F : Frame) where
   after_all (k ∷ ks) z = after_all ks (after k z)
 
   abbrev pub count_if : Judged → ℕ → ℕ
-  count_if Admitted k = k
-  count_if (Refused r) k = 0
+  count_if (Ok _) k = k
+  count_if (Err r) k = 0
 
   unfoldable pub accepted : List ℕ → Kept → ℕ
   accepted [] z = 0
@@ -79,7 +78,7 @@ pub record Pauses (F : Frame) (M : Memory) (d : List ℕ) : Type 0 where
 
 -- Of every frame that begin, lent this memory and this list, does not refuse.
 abbrev pub RunPauses : Type 0
-RunPauses = (F : Frame) (M : Memory) (d : List ℕ) → decode_finds F (length d) (room_of M) ≡ Admitted → Pauses F M d
+RunPauses = (F : Frame) (M : Memory) (d : List ℕ) → decode_finds F (length d) (room_of M) ≡ Ok tt → Pauses F M d
 
 -- Demand 3 of halted runs: for a codeword both records are equal, and the bits differ exactly where it is 1.
 pub record SameRecord (F : Frame) (c : ℕ → Bool) (k : ℕ) : Type 0 where

@@ -1,54 +1,45 @@
 // The parts of begin and advance: in memory of exactly the right lengths, and in memory that is long enough.
-ghost use Rattle.std.specs.Prelude.{◌≡◌, ◌+◌, ◌≤◌, ◌<◌, min, take};
+ghost use Rattle.std.specs.Prelude.{◌≡◌, ◌+◌, ◌≤◌, ◌<◌, take};
 ghost use Rattle.rules.specs.Graphs.{Admitted};
 ghost use Rattle.rules.specs.Levels.{largest};
 ghost use Rattle.rules.specs.Sequence.{State};
-ghost use Rattle.refusals.specs.declared.Judged.TheVariants as Judgement;
-ghost use Rattle.words.specs.Roles.{graph_of};
+ghost use Rattle.words.specs.Roles.{graph_lent};
 ghost use Rattle.settings.specs.Theorems.{Admissible};
 ghost use Rattle.nodes.specs.Memory.{level_in};
 ghost use Rattle.steps.specs.Steps.{Degrees, Sized, rules_under, Given};
 ghost use Rattle.decoding.specs.Decoding.{room_of};
 ghost use Rattle.decoding.specs.Frames.{memory};
-ghost use Rattle.decoder.specs.Runs.{exact, Ready};
+ghost use Rattle.decoder.specs.Runs.{exact, Long, Ready};
 ghost use Rattle.pausing.specs.Records.{record_at};
 ghost use Rattle.pausing.specs.Pausing.{handed, within_judged};
-ghost use Rattle.pausing.specs.Exact.{Long, BeginsExactly, BeginsInto, AdvancesExactly, AdvancesInto};
+ghost use Rattle.pausing.specs.Exact.{BeginsExactly, BeginsInto, AdvancesExactly, AdvancesInto};
 
 use crate::{Run, Standing};
 use settings::Settings;
+use words::Graph;
 
-// The record of iteration t with so many odd checks.
-fn run_at(limit: usize, t: usize, odd: usize) -> Run
-    ensures { result ≡ record_at limit t odd }
+// The record of an iteration with so many odd checks.
+fn run_at(limit: usize, iterations: usize, unsatisfied: usize) -> Run
+    ensures { result ≡ record_at limit iterations unsatisfied }
 {
-    if odd == 0 {
-        return Run {
-            standing: Standing::Codeword,
-            iterations: t,
-            unsatisfied: odd,
-        };
-    }
-    if limit <= t {
-        return Run {
-            standing: Standing::Stopped,
-            iterations: t,
-            unsatisfied: odd,
-        };
-    }
+    let standing = if unsatisfied == 0 {
+        Standing::Codeword
+    } else if limit <= iterations {
+        Standing::Stopped
+    } else {
+        Standing::Open
+    };
     Run {
-        standing: Standing::Open,
-        iterations: t,
-        unsatisfied: odd,
+        standing,
+        iterations,
+        unsatisfied,
     }
 }
 
 // Begins an accepted frame in memory of exactly the right lengths.
 fn begin_exactly(
-    s: Settings,
-    n: usize,
-    starts: &[u8],
-    columns: &[u8],
+    settings: Settings,
+    graph: Graph,
     values: &[u8],
     levels: &mut [u8],
     variable_messages: &mut [u8],
@@ -56,15 +47,13 @@ fn begin_exactly(
     sums: &mut [u8],
     bits: &mut [u8],
 ) -> Run
-    requires ready { Ready s (graph_of n starts.now columns.now) values.now }
-    requires exact { exact (graph_of n starts.now columns.now) (room_of (memory levels.old variable_messages.old check_messages.old sums.old bits.old)) }
-    ensures { BeginsExactly s (graph_of n starts.now columns.now) values.now result levels.new variable_messages.new check_messages.new sums.new bits.new }
+    requires ready { Ready settings (graph_lent graph) values.now }
+    requires exact { exact (graph_lent graph) (room_of (memory levels.old variable_messages.old check_messages.old sums.old bits.old)) }
+    ensures { BeginsExactly settings (graph_lent graph.entry) values.now result levels.new variable_messages.new check_messages.new sums.new bits.new }
 {
     decoder::begin_exactly(
-        s,
-        n,
-        starts,
-        columns,
+        settings,
+        graph,
         values,
         levels,
         variable_messages,
@@ -73,18 +62,16 @@ fn begin_exactly(
         bits,
     );
     run_at(
-        s.limit as usize,
+        settings.limit as usize,
         0,
-        syndrome::odd_checks(n, starts, columns, bits),
+        syndrome::odd_checks(graph, bits),
     )
 }
 
 // Begins an accepted frame in memory that is long enough.
 pub fn begin_within(
-    s: Settings,
-    n: usize,
-    starts: &[u8],
-    columns: &[u8],
+    settings: Settings,
+    graph: Graph,
     values: &[u8],
     levels: &mut [u8],
     variable_messages: &mut [u8],
@@ -92,45 +79,30 @@ pub fn begin_within(
     sums: &mut [u8],
     bits: &mut [u8],
 ) -> Run
-    requires ready { Ready s (graph_of n starts.now columns.now) values.now }
-    requires long { Long (graph_of n starts.now columns.now) (memory levels.old variable_messages.old check_messages.old sums.old bits.old) }
-    ensures { BeginsInto s (graph_of n starts.now columns.now) values.now result (memory levels.old variable_messages.old check_messages.old sums.old bits.old) (memory levels.new variable_messages.new check_messages.new sums.new bits.new) }
+    requires ready { Ready settings (graph_lent graph) values.now }
+    requires long { Long (graph_lent graph) (memory levels.old variable_messages.old check_messages.old sums.old bits.old) }
+    ensures { BeginsInto settings (graph_lent graph.entry) values.now result (memory levels.old variable_messages.old check_messages.old sums.old bits.old) (memory levels.new variable_messages.new check_messages.new sums.new bits.new) }
 {
-    let e = columns.len() / words::WIDE;
-    let w = 4 * n;
+    let n = graph.variables;
+    let e = graph.entries();
     begin_exactly(
-        s,
-        n,
-        starts,
-        columns,
+        settings,
+        graph,
         values,
         &mut levels[..n],
         &mut variable_messages[..e],
         &mut check_messages[..e],
-        &mut sums[..w],
+        &mut sums[..4 * n],
         &mut bits[..n],
     )
-}
-
-// The iteration where an advance by `count` from iteration t halts at the latest.
-fn end_of(t: usize, count: usize, limit: usize) -> usize
-    requires { (t < limit) × (limit < 256) }
-    ensures { result ≡ min (t + count) limit }
-{
-    if count < limit - t {
-        return t + count;
-    }
-    limit
 }
 
 // Up to `count` iterations more from iteration t, in memory of exactly the right lengths.
 fn advance_exactly(
     t: usize,
     count: usize,
-    s: Settings,
-    n: usize,
-    starts: &[u8],
-    columns: &[u8],
+    settings: Settings,
+    graph: Graph,
     levels: &[u8],
     degrees: &[u8],
     variable_messages: &mut [u8],
@@ -138,17 +110,16 @@ fn advance_exactly(
     sums: &mut [u8],
     bits: &mut [u8],
 ) -> Run
-    requires admissible { Admissible s × Sized (graph_of n starts.now columns.now) levels.now degrees.now variable_messages.old check_messages.old sums.old bits.old }
-    requires t_lt_limit { (t < s.limit) × (1 ≤ count) }
-    ensures { (σ : State) → Given (largest s.message) σ t variable_messages.old check_messages.old → AdvancesExactly (graph_of n starts.now columns.now) (rules_under s (graph_of n starts.now columns.now) (level_in levels.now)) s.limit count σ result variable_messages.new check_messages.new sums.new bits.new }
+    requires admissible { Admissible settings × Sized (graph_lent graph) levels.now degrees.now variable_messages.old check_messages.old sums.old bits.old }
+    requires t_lt_limit { (t < settings.limit) × (1 ≤ count) }
+    ensures { (σ : State) → Given (largest settings.message) σ t variable_messages.old check_messages.old → AdvancesExactly (graph_lent graph.entry) (rules_under settings (graph_lent graph.entry) (level_in levels.now)) settings.limit count σ result variable_messages.new check_messages.new sums.new bits.new }
 {
+    let limit = settings.limit as usize;
     let t = running::go_on(
         t,
-        end_of(t, count, s.limit as usize),
-        s,
-        n,
-        starts,
-        columns,
+        t.saturating_add(count).min(limit),
+        settings,
+        graph,
         levels,
         degrees,
         variable_messages,
@@ -157,9 +128,9 @@ fn advance_exactly(
         bits,
     );
     run_at(
-        s.limit as usize,
+        settings.limit as usize,
         t,
-        syndrome::odd_checks(n, starts, columns, bits),
+        syndrome::odd_checks(graph, bits),
     )
 }
 
@@ -167,10 +138,8 @@ fn advance_exactly(
 pub fn advance_within(
     run: Run,
     count: usize,
-    s: Settings,
-    n: usize,
-    starts: &[u8],
-    columns: &[u8],
+    settings: Settings,
+    graph: Graph,
     levels: &[u8],
     degrees: &[u8],
     variable_messages: &mut [u8],
@@ -178,25 +147,23 @@ pub fn advance_within(
     sums: &mut [u8],
     bits: &mut [u8],
 ) -> Run
-    requires admissible { Admissible s × Admitted (graph_of n starts.now columns.now) × Degrees (graph_of n starts.now columns.now) degrees.now }
-    requires long { Long (graph_of n starts.now columns.now) (memory levels.now variable_messages.old check_messages.old sums.old bits.old) × (run.iterations < s.limit) × (1 ≤ count) }
-    requires columns_value { (within_judged (largest s.message) variable_messages.old (graph_of n starts.now columns.now).entries ≡ Judgement.Admitted) × (within_judged (largest s.message) check_messages.old (graph_of n starts.now columns.now).entries ≡ Judgement.Admitted) }
-    ensures { AdvancesInto (graph_of n starts.now columns.now) (rules_under s (graph_of n starts.now columns.now) (level_in (take n levels.now))) s.limit count (handed run (take (graph_of n starts.now columns.now).entries variable_messages.old) (take (graph_of n starts.now columns.now).entries check_messages.old)) result (memory levels.now variable_messages.old check_messages.old sums.old bits.old) (memory levels.now variable_messages.new check_messages.new sums.new bits.new) }
+    requires admissible { Admissible settings × Admitted (graph_lent graph) × Degrees (graph_lent graph) degrees.now }
+    requires long { Long (graph_lent graph) (memory levels.now variable_messages.old check_messages.old sums.old bits.old) × (run.iterations < settings.limit) × (1 ≤ count) }
+    requires columns_value { (within_judged (largest settings.message) variable_messages.old (graph_lent graph).entries ≡ Ok tt) × (within_judged (largest settings.message) check_messages.old (graph_lent graph).entries ≡ Ok tt) }
+    ensures { AdvancesInto (graph_lent graph.entry) (rules_under settings (graph_lent graph.entry) (level_in (take graph.entry.variables levels.now))) settings.limit count (handed run (take (graph_lent graph.entry).entries variable_messages.old) (take (graph_lent graph.entry).entries check_messages.old)) result (memory levels.now variable_messages.old check_messages.old sums.old bits.old) (memory levels.now variable_messages.new check_messages.new sums.new bits.new) }
 {
-    let e = columns.len() / words::WIDE;
-    let w = 4 * n;
+    let n = graph.variables;
+    let e = graph.entries();
     advance_exactly(
         run.iterations,
         count,
-        s,
-        n,
-        starts,
-        columns,
+        settings,
+        graph,
         &levels[..n],
         degrees,
         &mut variable_messages[..e],
         &mut check_messages[..e],
-        &mut sums[..w],
+        &mut sums[..4 * n],
         &mut bits[..n],
     )
 }

@@ -30,14 +30,9 @@ pub fn channel_parts(levels: &[u8], degrees: &[u8], sums: &mut [u8])
     requires { (length sums.old ≡ 4 * length levels.now) × (length levels.now ≤ length degrees.now / 4) }
     ensures { sums.new ≡ sum_table (λ v. Nodes.contribution (Nodes.extra (degree_at degrees.now v)) (level_in levels.now v)) (length levels.now) }
 {
-    let mut v = 0;
-    while v < levels.len() {
-        words::put_sum(
-            sums,
-            v,
-            contribution(levels[v], extra(words::degree(degrees, v))),
-        );
-        v += 1;
+    for (v, &b) in levels.iter().enumerate() {
+        let part = contribution(b, extra(words::degree(degrees, v)));
+        words::put_sum(sums, v, part);
     }
 }
 
@@ -48,12 +43,10 @@ pub fn put_contributions(parts: &mut [i32], most: u8)
     ensures { parts.new ≡ tabulate (up_to most (Nodes.contribution 1)) 256 }
 {
     let count = most as usize + 1;
-    let mut m: usize = 0;
-    while m < count {
+    for m in 0..count {
         let x = (2 * m + 1) as i32;
         parts[m] = x;
         parts[m + 128] = -x;
-        m += 1;
     }
 }
 
@@ -75,11 +68,9 @@ pub fn add_messages(columns: &[u8], messages: &[u8], parts: &[i32], sums: &mut [
     requires by_index_2 { (v : ℕ) → v < length sums.old / 4 → nat_abs (sum_at sums.old v) ≤ 1024 }
     ensures { sums.new ≡ sum_table (λ v. sum_at sums.old v +ℤ fold ◌+ℤ◌ (pos 0) (share_in (column_at columns.now) (part_in parts.now messages.now) v) 0 (length messages.now)) (length sums.old / 4) ++ drop (4 * (length sums.old / 4)) sums.old }
 {
-    let mut e = 0;
-    while e < messages.len() {
+    for (e, &b) in messages.iter().enumerate() {
         let v = words::column(columns, e);
-        words::put_sum(sums, v, words::sum(sums, v) + parts[messages[e] as usize]);
-        e += 1;
+        words::put_sum(sums, v, words::sum(sums, v) + parts[b as usize]);
     }
 }
 
@@ -87,14 +78,10 @@ pub fn add_messages(columns: &[u8], messages: &[u8], parts: &[i32], sums: &mut [
 pub fn bit(sum: i32, minus: bool) -> u8
     ensures { result ≡ one (Nodes.bit_of sum minus) }
 {
-    if sum < 0 {
-        1
-    } else if 0 < sum {
-        0
-    } else if minus {
-        1
+    if sum == 0 {
+        minus as u8
     } else {
-        0
+        (sum < 0) as u8
     }
 }
 
@@ -103,9 +90,7 @@ pub fn decide(levels: &[u8], sums: &[u8], bits: &mut [u8])
     requires { (length sums.now ≡ 4 * length levels.now) × (length bits.old ≡ length levels.now) }
     ensures { bits.new ≡ tabulate (λ v. one (Nodes.bit_of (sum_at sums.now v) (level_in levels.now v).minus)) (length levels.now) }
 {
-    let mut v = 0;
-    while v < levels.len() {
-        bits[v] = bit(words::sum(sums, v), 128 <= levels[v]);
-        v += 1;
+    for (v, &b) in levels.iter().enumerate() {
+        bits[v] = bit(words::sum(sums, v), 128 <= b);
     }
 }

@@ -4,7 +4,6 @@ use mathlib.Core.List.{List, [], ◌∷◌, ◌++◌, append_assoc, map}
 use Prim.Native.Nat.{ℕ, zero, suc, ◌+◌, ◌≤◌, ◌<◌}
 use native.Mathlib.Omega.{arith}
 use lib.ListN.{length, take, get_or, set, length-append, length-map}
-use Rattle.rules.specs.Ranges.{one}
 use Rattle.rules.specs.Graphs.{program_limits}
 use Rattle.refusals.specs.Refusals.{paper}
 use Rattle.refusals.specs.declared.Refusal.{Refusal}

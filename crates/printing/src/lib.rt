@@ -66,12 +66,10 @@ fn put_bits(out: &mut [u8], at: usize, bits: &[u8]) -> usize
     requires { at + length bits.now ≤ length out.old }
     ensures { Put (map bit_text bits.now) out.old out.new at result }
 {
-    let mut k = 0;
-    while k < bits.len() {
+    for k in 0..bits.len() {
         out[at + k] = bit_text(bits[k]);
-        k += 1;
     }
-    at + k
+    at + bits.len()
 }
 
 // Puts the report of a run and its bits.

@@ -1,4 +1,5 @@
 -- What decode gives of a graph within the program's limits, lent enough memory, as the printed text.
+use Rattle.std.specs.Prelude.{Ok, Err}
 use mathlib.Core.Path.{◌≡◌, sym, ap, ap₂, ◌∙◌}
 use mathlib.Core.Bool.{true}
 use mathlib.Core.List.{List, map}
@@ -12,16 +13,13 @@ use Rattle.rules.specs.Graphs.{Graph, program_limits}
 use Rattle.rules.specs.Sequence.{Scheme, state, begun, next, iterated, stop, final, report}
 use Rattle.refusals.specs.declared.Refusal.{Refusal}
 use Rattle.rules.specs.declared.Report.{Report}
-use Rattle.refusals.specs.declared.Judged.{Judged}
-use Rattle.refusals.specs.declared.Judged.TheVariants as Judgement
+use Rattle.refusals.specs.Refusals.{Judged}
 use Rattle.rules.proofs.Ranges.{length_tabulate}
 use Rattle.refusals.proofs.Judging.{or_else_none}
-use Rattle.decoding.specs.declared.Decoded.{Decoded}
-use Rattle.decoding.specs.declared.Decoded.TheVariants.{Ran, Refused}
+use Rattle.decoding.specs.Decoding.{Decoded, Frame, Memory, room_of, enough, graph, scheme, frame_judged, decode_judged, decode_finds, decoded, memory_after, Decodes}
 use Rattle.decoding.specs.declared.Room.{Room}
 use Rattle.graphs.specs.Judging.{graph_judged}
 use Rattle.graphs.specs.Calls.{Old}
-use Rattle.decoding.specs.Decoding.{Frame, Memory, room_of, enough, graph, scheme, frame_judged, decode_judged, decode_finds, decoded, memory_after, Decodes}
 use Rattle.decoding.proofs.Accepting.{as_before}
 use Rattle.program_texts.specs.Printing.Texts.{report_text, refusal_text, longest, Prints}
 use Rattle.program_texts.specs.Answering.{judged_text, frame_text}
@@ -64,30 +62,30 @@ module _ {F : Frame} {M M' : Memory} {x x' : List ℕ} {d : Decoded} (w : Decode
   memory_is : M' ≡ memory_after F (found F) M
   memory_is = w.memory ∙ ap (λ (j : Judged). memory_after F j M) (lent_judged F (length x) (room_of M) l)
 
-  frame_refused : {r : Refusal} → d ≡ Refused r → frame_text F ≡ refusal_text r
+  frame_refused : {r : Refusal} → d ≡ Err r → frame_text F ≡ refusal_text r
   unfolding frame_text
   frame_refused {r} e = go (found F) (sym answer_is ∙ e)
     where
-      go : (j : Judged) → decoded F j ≡ Refused r → judged_text F j ≡ refusal_text r
-      go Judgement.Admitted q = let z : ◌≡◌ {A = ℕ} 0 1 = cc in absurd (omega arith)
-      go (Judgement.Refused s) q = let u : s ≡ r = cc in ap refusal_text u
+      go : (j : Judged) → decoded F j ≡ Err r → judged_text F j ≡ refusal_text r
+      go (Ok _) q = let z : ◌≡◌ {A = ℕ} 0 1 = cc in absurd (omega arith)
+      go (Err s) q = let u : s ≡ r = cc in ap refusal_text u
 
-  frame_ran : {r : Report} → d ≡ Ran r → frame_text F ≡ report_text r (take F.variables M'.bits)
+  frame_ran : {r : Report} → d ≡ Ok r → frame_text F ≡ report_text r (take F.variables M'.bits)
   unfolding frame_text
   frame_ran {r} e = go (found F) (sym answer_is ∙ e) memory_is
     where
-      go : (j : Judged) → decoded F j ≡ Ran r → M' ≡ memory_after F j M → judged_text F j ≡ report_text r (take F.variables M'.bits)
-      go Judgement.Admitted q m =
+      go : (j : Judged) → decoded F j ≡ Ok r → M' ≡ memory_after F j M → judged_text F j ≡ report_text r (take F.variables M'.bits)
+      go (Ok _) q m =
           let b : List ℕ = map one (final (graph F) (scheme F) F.asked.limit).bits in
           let u : report (graph F) (scheme F) F.asked.limit ≡ r = cc in
           let n : length b ≡ F.variables = length-map (final (graph F) (scheme F) F.asked.limit).bits one ∙ final_bits (graph F) (scheme F) F.asked.limit in
           let v : take F.variables M'.bits ≡ b = ap (λ (x : Memory). take F.variables x.bits) m ∙ take_at b (drop F.variables M.bits) F.variables n in
           ap₂ report_text u (sym v)
-      go (Judgement.Refused s) q m = let z : ◌≡◌ {A = ℕ} 0 1 = cc in absurd (omega arith)
+      go (Err s) q m = let z : ◌≡◌ {A = ℕ} 0 1 = cc in absurd (omega arith)
 
   module _ {n : ℕ} {old now : List ℕ} where
-    pub refused_prints : {r : Refusal} → d ≡ Refused r → Prints longest (refusal_text r) old now n → Prints longest (frame_text F) old now n
+    pub refused_prints : {r : Refusal} → d ≡ Err r → Prints longest (refusal_text r) old now n → Prints longest (frame_text F) old now n
     refused_prints e p = prints_as (sym (frame_refused e)) p
 
-    pub ran_prints : {r : Report} → d ≡ Ran r → Prints longest (report_text r (take F.variables M'.bits)) old now n → Prints longest (frame_text F) old now n
+    pub ran_prints : {r : Report} → d ≡ Ok r → Prints longest (report_text r (take F.variables M'.bits)) old now n → Prints longest (frame_text F) old now n
     ran_prints e p = prints_as (sym (frame_ran e)) p

@@ -1,4 +1,5 @@
 -- What the sheet and the run text give, as the printed text.
+use Rattle.std.specs.Prelude.{Ok, Err}
 use mathlib.Core.Path.{◌≡◌, refl, sym, ap, ap₂, ◌∙◌, subst}
 use mathlib.Core.List.{List, [], ◌++◌}
 use Prim.Native.Nat.{ℕ, suc, ◌+◌, ◌*◌, ◌≤◌, ◌<◌}
@@ -14,18 +15,14 @@ use Rattle.words.specs.Words.{table}
 use Rattle.words.proofs.Words.{length_table}
 use Rattle.texts.proofs.Putting.{put_front}
 use Rattle.code_sheets.specs.declared.Counts.{Counts}
-use Rattle.code_sheets.specs.declared.Sheet.{Sheet}
-use Rattle.code_sheets.specs.declared.Sheet.TheVariants as Sheets
+use Rattle.code_sheets.specs.Reader.Reading.{Sheet, Reading, sheet_read}
 use Rattle.code_sheets.specs.Reader.Reading as Sheet
-use Rattle.code_sheets.specs.Reader.Reading.{Reading, sheet_read}
 use Rattle.code_sheets.proofs.Reader.Texts.{texts_and_graphs}
 use Rattle.code_sheets.proofs.Reader.Calls as Calls
 use Rattle.settings.specs.declared.Parameters.{Parameters}
 use Rattle.decoding.specs.Frames.{frame}
-use Rattle.program_texts.specs.declared.Run.{Run}
-use Rattle.program_texts.specs.declared.Run.TheVariants as Runs
 use Rattle.program_texts.specs.RunText.Reading as Run
-use Rattle.program_texts.specs.RunText.Reading.{RunText, largest_input, run_text}
+use Rattle.program_texts.specs.RunText.Reading.{Run, RunText, largest_input, run_text}
 use Rattle.run_text.proofs.Lengths.{run_long}
 use Rattle.program_texts.specs.Printing.Texts.{refusal_text, longest, Prints}
 use Rattle.program_texts.specs.Answering.{frame_text, after_run, after_sheet, sheet_given, program_text, Answers}
@@ -33,17 +30,17 @@ use Rattle.program_texts.specs.Answering.{frame_text, after_run, after_sheet, sh
 -- ---- the run text
 
 module _ (n : ℕ) (s starts columns : List ℕ) {r : Run} {old now : List ℕ} (w : Run.ReadAs (run_text n s) r old now) where
-  pub run_refused : {l : ℕ} → r ≡ Runs.Refused l → refusal_text (Refusals.RunText l) ≡ after_run n starts columns (run_text n s)
+  pub run_refused : {l : ℕ} → r ≡ Err l → refusal_text (Refusals.RunText l) ≡ after_run n starts columns (run_text n s)
   run_refused {l} e = go (run_text n s) (sym w.answer ∙ e)
     where
-      go : (x : RunText) → Run.answer_of x ≡ Runs.Refused l → refusal_text (Refusals.RunText l) ≡ after_run n starts columns x
+      go : (x : RunText) → Run.answer_of x ≡ Err l → refusal_text (Refusals.RunText l) ≡ after_run n starts columns x
       go (Run.refused k) q = let u : l ≡ k = cc in ap (λ (j : ℕ). refusal_text (Refusals.RunText j)) u
       go (Run.read g v) q = let z : ◌≡◌ {A = ℕ} 0 1 = cc in absurd (omega arith)
 
-  pub run_given : {g : Parameters} → r ≡ Runs.Read g → frame_text (frame n starts columns (take (4 * n) now) g) ≡ after_run n starts columns (run_text n s)
+  pub run_given : {g : Parameters} → r ≡ Ok g → frame_text (frame n starts columns (take (4 * n) now) g) ≡ after_run n starts columns (run_text n s)
   run_given {g} e = go (run_text n s) refl (sym w.answer ∙ e) w.values
     where
-      go : (x : RunText) → run_text n s ≡ x → Run.answer_of x ≡ Runs.Read g → now ≡ Run.values_in x old
+      go : (x : RunText) → run_text n s ≡ x → Run.answer_of x ≡ Ok g → now ≡ Run.values_in x old
           → frame_text (frame n starts columns (take (4 * n) now) g) ≡ after_run n starts columns x
       go (Run.refused k) f q h = let z : ◌≡◌ {A = ℕ} 0 1 = cc in absurd (omega arith)
       go (Run.read k v) f q h =
@@ -86,17 +83,17 @@ module _ (t : List ℕ) {r : Sheet} {d d' st st' co co' : List ℕ} (w : Sheet.R
   read_as : Sheet.ReadAs (sheet_given t) r st st' co co'
   read_as = subst (λ (x : Reading). Sheet.ReadAs x r st st' co co') (ap₂ (sheet_read program_limits t) ls lc) (Calls.read_as {L = program_limits} {t = t} (omega arith) w)
 
-  pub sheet_refused : {x : Refusal} → r ≡ Sheets.Refused x → (run : List ℕ) → refusal_text x ≡ after_sheet (sheet_given t) run
+  pub sheet_refused : {x : Refusal} → r ≡ Err x → (run : List ℕ) → refusal_text x ≡ after_sheet (sheet_given t) run
   sheet_refused {x} e run = go (sheet_given t) (sym read_as.answer ∙ e)
     where
-      go : (y : Reading) → Sheet.answer_of y ≡ Sheets.Refused x → refusal_text x ≡ after_sheet y run
+      go : (y : Reading) → Sheet.answer_of y ≡ Err x → refusal_text x ≡ after_sheet y run
       go (Sheet.turned s) q = let u : x ≡ s = cc in ap refusal_text u
       go (Sheet.graph G) q = let z : ◌≡◌ {A = ℕ} 0 1 = cc in absurd (omega arith)
 
-  pub sheet_graph : {k : Counts} → r ≡ Sheets.Read k → GraphIn t k st' co'
+  pub sheet_graph : {k : Counts} → r ≡ Ok k → GraphIn t k st' co'
   sheet_graph {k} e = go (sheet_given t) refl (sym read_as.answer ∙ e) read_as.starts read_as.columns
     where
-      go : (y : Reading) → sheet_given t ≡ y → Sheet.answer_of y ≡ Sheets.Read k → st' ≡ Sheet.starts_of y st → co' ≡ Sheet.columns_of y co
+      go : (y : Reading) → sheet_given t ≡ y → Sheet.answer_of y ≡ Ok k → st' ≡ Sheet.starts_of y st → co' ≡ Sheet.columns_of y co
           → GraphIn t k st' co'
       go (Sheet.turned s) f q a b = let z : ◌≡◌ {A = ℕ} 0 1 = cc in absurd (omega arith)
       go (Sheet.graph G) f q a b =

@@ -2,33 +2,24 @@
 #![tactic(auto)]
 
 ghost use Rattle.std.specs.Prelude.{◌≡◌, ◌≤◌, length};
-ghost use Rattle.words.specs.Roles.{graph_of};
+ghost use Rattle.words.specs.Roles.{graph_lent};
 ghost use Rattle.rules.specs.Graphs.{program_limits};
-ghost use Rattle.refusals.specs.declared.Judged.TheVariants as Judgement;
 ghost use Rattle.graphs.specs.Judging.{counts_judged};
-ghost use Rattle.decoding.specs.Frames.{frame};
+ghost use Rattle.decoding.specs.Frames.{frame_lent};
 ghost use Rattle.program_texts.specs.RunText.Reading.{run_text};
 ghost use Rattle.program_texts.specs.Printing.Texts.{longest, Prints};
 ghost use Rattle.program_texts.specs.Answering.{frame_text, after_run, after_sheet, sheet_given, Answers};
 
-use code_sheets::{Counts, Sheet};
-use decoding::Decoded;
+use code_sheets::Counts;
+use decoding::Frame;
 use printing::{put_refusal, put_report};
-use program_texts::Run;
 use refusals::Refusal;
-use settings::Parameters;
+use words::Graph;
 
 // Decodes, and puts what comes of it.
-fn decode_answer(
-    n: usize,
-    starts: &[u8],
-    columns: &[u8],
-    values: &[u8],
-    asked: Parameters,
-    out: &mut [u8],
-) -> usize
-    requires { (counts_judged program_limits (graph_of n starts.now columns.now) ≡ Judgement.Admitted) × (longest ≤ length out.old) }
-    ensures { Prints longest (frame_text (frame n starts.now columns.now values.now asked)) out.old out.new result }
+fn decode_answer(frame: Frame, out: &mut [u8]) -> usize
+    requires { (counts_judged program_limits (graph_lent frame.graph) ≡ Ok tt) × (longest ≤ length out.old) }
+    ensures { Prints longest (frame_text (frame_lent frame.entry)) out.old out.new result }
 {
     let mut degrees = [0u8; 4 * rules::PROGRAM_VARIABLES];
     let mut levels = [0u8; rules::PROGRAM_VARIABLES];
@@ -36,12 +27,8 @@ fn decode_answer(
     let mut check_messages = [0u8; rules::PROGRAM_ENTRIES];
     let mut sums = [0u8; 4 * rules::PROGRAM_VARIABLES];
     let mut bits = [0u8; rules::PROGRAM_VARIABLES];
-    let d = decoder::decode(
-        n,
-        starts,
-        columns,
-        values,
-        asked,
+    let answer = decoder::decode(
+        frame,
         &mut degrees,
         &mut levels,
         &mut variable_messages,
@@ -49,24 +36,28 @@ fn decode_answer(
         &mut sums,
         &mut bits,
     );
-    match d {
-        Decoded::Refused(r) => put_refusal(out, r),
-        Decoded::Ran(r) => put_report(out, r, &bits[..n]),
+    match answer {
+        Err(refusal) => put_refusal(out, refusal),
+        Ok(report) => put_report(out, report, &bits[..frame.graph.variables]),
     }
 }
 
 // Reads the run text, and goes on to decode.
-fn run_answer(n: usize, starts: &[u8], columns: &[u8], run: &[u8], out: &mut [u8]) -> usize
-    requires { (counts_judged program_limits (graph_of n starts.now columns.now) ≡ Judgement.Admitted) × (longest ≤ length out.old) }
-    ensures { Prints longest (after_run n starts.now columns.now (run_text n run.now)) out.old out.new result }
+fn run_answer(graph: Graph, run: &[u8], out: &mut [u8]) -> usize
+    requires { (counts_judged program_limits (graph_lent graph) ≡ Ok tt) × (longest ≤ length out.old) }
+    ensures { Prints longest (after_run graph.entry.variables graph.entry.starts.now graph.entry.columns.now (run_text graph.entry.variables run.now)) out.old out.new result }
 {
     let mut values = [0u8; 4 * rules::PROGRAM_VARIABLES];
-    let x = run_text::read(n, run, &mut values);
-    match x {
-        Run::Refused(l) => put_refusal(out, Refusal::RunText(l)),
-        Run::Read(asked) => {
-            let w = 4 * n;
-            decode_answer(n, starts, columns, &values[..w], asked, out)
+    match run_text::read(graph.variables, run, &mut values) {
+        Err(line) => put_refusal(out, Refusal::RunText(line)),
+        Ok(asked) => {
+            let w = 4 * graph.variables;
+            let frame = Frame {
+                graph,
+                values: &values[..w],
+                asked,
+            };
+            decode_answer(frame, out)
         }
     }
 }
@@ -84,13 +75,17 @@ fn sheet_answer(sheet: &[u8], run: &[u8], out: &mut [u8]) -> usize
         checks: rules::PROGRAM_CHECKS,
         entries: rules::PROGRAM_ENTRIES,
     };
-    let x = sheet::read_within(most, sheet, &mut degrees, &mut starts, &mut columns);
-    match x {
-        Sheet::Refused(r) => put_refusal(out, r),
-        Sheet::Read(counts) => {
+    match sheet::read_within(most, sheet, &mut degrees, &mut starts, &mut columns) {
+        Err(refusal) => put_refusal(out, refusal),
+        Ok(counts) => {
             let s = words::WIDE * (counts.checks + 1);
             let c = words::WIDE * counts.entries;
-            run_answer(counts.variables, &starts[..s], &columns[..c], run, out)
+            let graph = Graph {
+                variables: counts.variables,
+                starts: &starts[..s],
+                columns: &columns[..c],
+            };
+            run_answer(graph, run, out)
         }
     }
 }

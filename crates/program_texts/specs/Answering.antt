@@ -1,12 +1,11 @@
 -- Document 01, 'The program': what `frame` prints for the bytes of the sheet and of the run text.
-use Rattle.std.specs.Prelude.{◌≡◌, cond, List, [], ◌++◌, map, ℕ, suc, ◌*◌, leb, length, drop}
+use Rattle.std.specs.Prelude.{◌≡◌, cond, List, [], ◌++◌, map, ℕ, suc, ◌*◌, leb, length, drop, Ok, Err}
 use Rattle.words.specs.Roles.{wide}
 use Rattle.rules.specs.Ranges.{one}
 use Rattle.rules.specs.Graphs.{program_limits}
 use Rattle.rules.specs.Sequence.{final, report}
 use Rattle.refusals.specs.declared.Refusal.TheVariants.{Count, RunText}
-use Rattle.refusals.specs.declared.Judged.{Judged}
-use Rattle.refusals.specs.declared.Judged.TheVariants as Judgement
+use Rattle.refusals.specs.Refusals.{Judged}
 use Rattle.words.specs.Words.{table}
 use Rattle.graphs.specs.Judging.{graph_judged}
 use Rattle.decoding.specs.Decoding.{Frame, graph, scheme, frame_judged}
@@ -19,8 +18,8 @@ use Rattle.program_texts.specs.Printing.Texts.{report_text, refusal_text, longes
 
 -- 'Then decode's': its refusals, but for both 6, since enough memory is lent; or the report and the bits of the run.
 abbrev pub judged_text : Frame → Judged → List ℕ
-judged_text F Judgement.Admitted = report_text (report (graph F) (scheme F) F.asked.limit) (map one (final (graph F) (scheme F) F.asked.limit).bits)
-judged_text F (Judgement.Refused r) = refusal_text r
+judged_text F (Ok _) = report_text (report (graph F) (scheme F) F.asked.limit) (map one (final (graph F) (scheme F) F.asked.limit).bits)
+judged_text F (Err r) = refusal_text r
 
 unfoldable pub frame_text : Frame → List ℕ
 frame_text F = judged_text F (frame_judged F (graph_judged program_limits (graph F)))

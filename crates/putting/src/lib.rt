@@ -10,12 +10,11 @@ pub fn put_fixed(text: &mut [u8], at: usize, x: &[u8]) -> usize
     requires { at + length x.now ≤ length text.old }
     ensures { Put x.now text.old text.new at result }
 {
-    let mut k = 0;
-    while k < x.len() {
+    // By a loop: in the library, calls would keep the fixed texts as lists of constants.
+    for k in 0..x.len() {
         text[at + k] = x[k];
-        k += 1;
     }
-    at + k
+    at + x.len()
 }
 
 // Puts the last digit of a number.

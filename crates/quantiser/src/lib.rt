@@ -9,26 +9,23 @@ ghost use Rattle.rules.specs.Levels.{byte};
 ghost use Rattle.settings.specs.Quantiser.{sign_bit, size, wholes_below, level_for};
 ghost use Rattle.settings.specs.Values.{values_judged, blank_values, quantised};
 
-use refusals::{Judged, Refusal};
+use refusals::Refusal;
 
 // Whether the sign bit of y is set. (The NaN has none.)
 fn is_minus(y: f32) -> bool
     ensures { result ≡ sign_bit y }
 {
-    if y != y {
-        return false;
-    }
-    0x8000_0000 <= f32::to_bits(y)
+    !y.is_nan() && y.is_sign_negative()
 }
 
-// |y|, by its bits: signs are as good as random, so that a branch on one would be mispredicted half the time.
+// |y|, by its bits: with the library's `abs`, `quantise` takes a tenth longer.
 fn size_of(y: f32) -> f32
     ensures { result ≡ size y }
 {
-    if y != y {
+    if y.is_nan() {
         return y;
     }
-    words::float_of(f32::to_bits(y) % 0x8000_0000)
+    f32::from_bits(y.to_bits() % 0x8000_0000)
 }
 
 // What the sign of y adds to its level's byte.
@@ -43,30 +40,21 @@ fn wholes_below(p: f32, most: u8) -> u8
     requires { most < 128 }
     ensures { (result ≡ wholes_below most p) × (result ≤ most) }
 {
-    let mut n: u8 = 0;
-    let mut k: u8 = 0;
-    while k < most {
-        k += 1;
-        n += ((k as f32) < p) as u8;
+    let mut n = 0;
+    for k in 0..most {
+        n += (((k + 1) as f32) < p) as u8;
     }
     n
-}
-
-// The largest magnitude that is asked for, or the largest that a byte holds.
-fn in_byte(most: u8) -> u8
-    ensures { result ≡ min most 127 }
-{
-    if most < 127 { most } else { 127 }
 }
 
 // The byte of the level of a channel value, of magnitudes up to `most`; a byte holds no more than 127.
 pub fn level(factor: f32, y: f32, most: u8) -> u8
     ensures { result ≡ byte (level_for (min most 127) factor y) }
 {
-    wholes_below(factor * size_of(y), in_byte(most)) + sign_of(y)
+    wholes_below(factor * size_of(y), most.min(127)) + sign_of(y)
 }
 
-// Whether a bit pattern is that of a finite f32.
+// Whether a bit pattern is that of a finite f32: the library's `is_finite`, of the f32, takes more than twice as long here.
 fn is_finite(bits: u32) -> bool
     ensures { result ≡ finite (of_bits binary32 bits) }
 {
@@ -74,18 +62,15 @@ fn is_finite(bits: u32) -> bool
 }
 
 // Whether all values are finite, or the first that is not.
-pub fn check_values(values: &[u8]) -> Judged
+pub fn check_values(values: &[u8]) -> Result<(), Refusal>
     ensures { result ≡ values_judged values.now }
 {
-    let n = values.len() / 4;
-    let mut v = 0;
-    while v < n {
+    for v in 0..values.len() / 4 {
         if !is_finite(words::pattern(values, v)) {
-            return Judged::Refused(Refusal::Value(v));
+            return Err(Refusal::Value(v));
         }
-        v += 1;
     }
-    Judged::Admitted
+    Ok(())
 }
 
 // Whether the magnitude of y is above 0: its product lies above the first threshold.
@@ -99,31 +84,20 @@ fn is_exposed(factor: f32, y: f32) -> bool
 pub fn is_blank(values: &[u8], factor: f32) -> bool
     ensures { (N : ℕ) → 1 ≤ N → N < 128 → result ≡ blank_values N factor values.now }
 {
-    let n = values.len() / 4;
-    let mut v = 0;
-    while v < n {
+    for v in 0..values.len() / 4 {
         if is_exposed(factor, words::value(values, v)) {
             return false;
         }
-        v += 1;
     }
     true
-}
-
-fn smaller(a: usize, b: usize) -> usize
-    ensures { result ≡ min a b }
-{
-    if a < b { a } else { b }
 }
 
 // Makes each level the byte of its value's level, as far as both lists go.
 pub fn quantise(values: &[u8], factor: f32, most: u8, levels: &mut [u8])
     ensures { levels.new ≡ quantised (min most 127) factor values.now levels.old }
 {
-    let n = smaller(levels.len(), values.len() / 4);
-    let mut v: usize = 0;
-    while v < n {
+    let n = levels.len().min(values.len() / 4);
+    for v in 0..n {
         levels[v] = level(factor, words::value(values, v), most);
-        v += 1;
     }
 }

@@ -1,11 +1,9 @@
 -- Document 01, 'What each call turns down', and document 02: refusals with their numbers and places, and the order in which they are looked for.
-use Rattle.std.specs.Prelude.{Bool, true, false, ℕ}
+use Rattle.std.specs.Prelude.{Bool, true, false, ℕ, Result, Ok, Err}
 use Rattle.rules.specs.Ranges.{fold}
 use Rattle.refusals.specs.declared.Refusal.{Refusal}
 use Rattle.refusals.specs.declared.Refusal.TheVariants.{Form, Count, Range, Order, Degree, Buffer, Start, Precision, Option, Scaling, Factor, Value, Length, RunText, Bit, Lifting, Shift, Positions, NoCodeword, Blank, Advance, Allowance}
 use Rattle.refusals.specs.declared.Numbered.{Numbered}
-use Rattle.refusals.specs.declared.Judged.{Judged}
-use Rattle.refusals.specs.declared.Judged.TheVariants.{Admitted, Refused}
 
 abbrev numbered : ℕ → ℕ → Numbered
 numbered n p = record { number = n; place = p }
@@ -35,16 +33,20 @@ paper Blank = numbered 20 0  -- a blank frame: every channel magnitude is 0
 paper Advance = numbered 21 0  -- a finished record, one at or past its limit, a count above the limit, a level or message beyond its precision
 paper Allowance = numbered 22 0  -- an allowance of two heads outside its bounds
 
+-- What a check of some input finds: nothing, or why it is turned down.
+abbrev pub Judged : Type 0
+Judged = Result (Unit {0}) Refusal
+
 -- The refusal where the test fails.
 abbrev pub unless : Bool → Refusal → Judged
-unless true r = Admitted
-unless false r = Refused r
+unless true r = Ok tt
+unless false r = Err r
 
 -- 'Where several apply, the one named first below is given.'
 abbrev pub or_else : Judged → Judged → Judged
-or_else Admitted j = j
-or_else (Refused r) j = Refused r
+or_else (Ok _) j = j
+or_else (Err r) j = Err r
 
 -- 'Each looked for over the whole input before the next': the first refusal of j 0, j 1, .., j (k - 1).
 unfoldable pub each : (ℕ → Judged) → ℕ → Judged
-each j k = fold or_else Admitted j 0 k
+each j k = fold or_else (Ok tt) j 0 k

@@ -101,10 +101,3 @@ impl Refusal {
         }
     }
 }
-
-// What a check of some input finds.
-#[derive(Clone, Copy)]
-pub enum Judged {
-    Admitted,
-    Refused(Refusal),
-}

@@ -4,29 +4,17 @@
 ghost use Rattle.std.specs.Prelude.{◌≡◌, ◌+◌, ◌≤◌, length};
 ghost use Rattle.words.specs.Words.{stored};
 ghost use Rattle.decoding.specs.Frames.{memory};
-ghost use Rattle.decoding.specs.Pairing.Pairs.{heads};
-ghost use Rattle.interface.specs.Pairs.{party_number, pack_refused, RefusesShort, ReportsPair};
+ghost use Rattle.decoding.specs.Pairing.Pairs.{heads_lent};
+ghost use Rattle.interface.specs.Pairs.{pack_refused, RefusesShort, ReportsPair};
 
-use decoding::{CheckedPair, Decoded, Paired, Party, Room};
+use decoding::{Heads, Party, Room};
 use refusals::Refusal;
-use settings::Parameters;
-
-pub fn party_number(p: Party) -> u64
-    ensures { result ≡ party_number p }
-{
-    match p {
-        Party::Pair => 0,
-        Party::First => 1,
-        Party::Second => 2,
-    }
-}
 
 // A refusal and whose it is as one number.
-pub fn pack_refused(p: Party, r: Refusal) -> u64
-    ensures { result ≡ pack_refused p r }
+pub fn pack_refused(party: Party, refusal: Refusal) -> u64
+    ensures { result ≡ pack_refused party refusal }
 {
-    let k = r.numbered();
-    k.number as u64 + 256 * party_number(p)
+    u64::from(refusal.numbered().number) + 256 * (party as u64)
 }
 
 // Puts a number into the eight bytes from byte k on.
@@ -39,50 +27,18 @@ pub fn put_number(list: &mut [u8], k: usize, x: u64)
 }
 
 // What is refused of a pair whose list of reports is too short: nothing is decoded.
-pub fn refuse_short(
-    n: usize,
-    starts: &[u8],
-    columns: &[u8],
-    allowance: u32,
-    first_values: &[u8],
-    first_asked: Parameters,
-    second_values: &[u8],
-    second_asked: Parameters,
-    degrees: &mut [u8],
-    first_room: Room,
-    second_room: Room,
-) -> u64
-    ensures { RefusesShort (heads n starts.now columns.now allowance first_values.now first_asked second_values.now second_asked) first_room second_room degrees.old degrees.new result }
+pub fn refuse_short(heads: Heads, degrees: &mut [u8], first_room: Room, second_room: Room) -> u64
+    ensures { RefusesShort (heads_lent heads.entry) first_room second_room degrees.old degrees.new result }
 {
-    let c = pairing::accept(
-        n,
-        starts,
-        columns,
-        allowance,
-        first_values,
-        first_asked,
-        second_values,
-        second_asked,
-        degrees,
-        first_room,
-        second_room,
-    );
-    match c {
-        CheckedPair::Refused(p, r) => pack_refused(p, r),
-        CheckedPair::Good(_, _) => pack_refused(Party::Pair, Refusal::Buffer),
+    match pairing::accept(heads, degrees, first_room, second_room) {
+        Err((party, refusal)) => pack_refused(party, refusal),
+        Ok(_) => pack_refused(Party::Pair, Refusal::Buffer),
     }
 }
 
 // Decodes a pair and puts its reports into the lent list, which is long enough.
 pub fn decode_reported(
-    n: usize,
-    starts: &[u8],
-    columns: &[u8],
-    allowance: u32,
-    first_values: &[u8],
-    first_asked: Parameters,
-    second_values: &[u8],
-    second_asked: Parameters,
+    heads: Heads,
     degrees: &mut [u8],
     first_levels: &mut [u8],
     first_variable_messages: &mut [u8],
@@ -97,17 +53,10 @@ pub fn decode_reported(
     reports: &mut [u8],
 ) -> u64
     requires { 16 ≤ length reports.old }
-    ensures { ReportsPair (heads n starts.now columns.now allowance first_values.now first_asked second_values.now second_asked) (memory first_levels.old first_variable_messages.old first_check_messages.old first_sums.old first_bits.old) (memory first_levels.new first_variable_messages.new first_check_messages.new first_sums.new first_bits.new) (memory second_levels.old second_variable_messages.old second_check_messages.old second_sums.old second_bits.old) (memory second_levels.new second_variable_messages.new second_check_messages.new second_sums.new second_bits.new) degrees.old degrees.new reports.old reports.new result }
+    ensures { ReportsPair (heads_lent heads.entry) (memory first_levels.old first_variable_messages.old first_check_messages.old first_sums.old first_bits.old) (memory first_levels.new first_variable_messages.new first_check_messages.new first_sums.new first_bits.new) (memory second_levels.old second_variable_messages.old second_check_messages.old second_sums.old second_bits.old) (memory second_levels.new second_variable_messages.new second_check_messages.new second_sums.new second_bits.new) degrees.old degrees.new reports.old reports.new result }
 {
-    let d = pairing::decode(
-        n,
-        starts,
-        columns,
-        allowance,
-        first_values,
-        first_asked,
-        second_values,
-        second_asked,
+    let answer = pairing::decode(
+        heads,
         degrees,
         first_levels,
         first_variable_messages,
@@ -120,11 +69,11 @@ pub fn decode_reported(
         second_sums,
         second_bits,
     );
-    match d {
-        Paired::Refused(p, r) => pack_refused(p, r),
-        Paired::Ran(first, second) => {
-            let a = packing::pack_decoded(Decoded::Ran(first));
-            let b = packing::pack_decoded(Decoded::Ran(second));
+    match answer {
+        Err((party, refusal)) => pack_refused(party, refusal),
+        Ok((first, second)) => {
+            let a = packing::pack_decoded(Ok(first));
+            let b = packing::pack_decoded(Ok(second));
             put_number(reports, 0, a);
             put_number(reports, 8, b);
             0

@@ -3,8 +3,9 @@ use mathlib.Core.Path.{◌≡◌, refl, sym, ap, ◌∙◌}
 use mathlib.Core.List.{List, [], ◌∷◌, ◌++◌, append_assoc, append-nil, map, map-append}
 use Prim.Native.Nat.{ℕ, zero, suc, ◌+◌, ◌-◌, ◌≤◌, ◌<◌}
 use native.Mathlib.Nat.{add-zero, add-suc}
+use native.Mathlib.Numerals.{add-one}
 use native.Mathlib.Omega.{arith}
-use lib.ListN.{length, get_or, take, drop, set, length-set, length-append, length-drop, drop_of_length-le}
+use lib.ListN.{length, get_or, take, drop, set, replicate, replicate-append-replicate, length-set, length-append, length-drop, drop_of_length-le}
 use lib.Seq.{take_at, drop_at, drop-drop, get_or-append-add, get_or-drop}
 use borrow.Rule.Slice.PartMut.{put_mid}
 use Rattle.rules.specs.Ranges.{joined, tabulate}
@@ -51,6 +52,12 @@ module _ {A : Type 0} where
   tabulate_add f a (suc n) =
       sym (append_assoc (tabulate f a) (tabulate (λ (k : ℕ). f (a + k)) n) (f (a + n) ∷ []))
       ∙ ap (λ (t : List A). t ++ (f (a + n) ∷ [])) (tabulate_add f a n) ∙ ap (tabulate f) (sym (add-suc a n))
+
+  -- one value at every place
+  pub tabulate_same : (x : A) (n : ℕ) → tabulate (λ (k : ℕ). x) n ≡ replicate n x
+  unfolding tabulate joined
+  tabulate_same x zero = refl
+  tabulate_same x (suc n) = ap (λ (t : List A). t ++ (x ∷ [])) (tabulate_same x n) ∙ replicate-append-replicate n 1 x ∙ ap (λ (k : ℕ). replicate k x) (add-one n)
 
   -- the part from a to b, lent to a call that fills it, and put back
   pub filled_part : {f : ℕ → A} {old now part : List A} {a b : ℕ} → a ≤ b → b ≤ length old → Filled f old now a

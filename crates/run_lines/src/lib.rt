@@ -2,262 +2,131 @@
 #![tactic(auto)]
 
 ghost use Rattle.std.specs.Prelude.{◌≡◌, ◌*◌, ◌≤◌, length};
-ghost use Rattle.program_texts.specs.RunText.Texts.{hex_digit, hex_digits, pattern, setting, settings, scaling, titles, settings_line};
-ghost use Rattle.run_lines.specs.Places.{WordAt, TripleAt, ScaleAt, TitlesAt, LineAt};
+ghost use Rattle.program_texts.specs.RunText.Texts.{hex_digits, pattern, setting, settings, scaling, titles, settings_line};
+ghost use Rattle.run_lines.specs.Places.{ReadAt, ThreeAt, HexDigit};
 
 use settings::{Parameters, Scaling};
-use texts::{Mark, Number};
+use texts::Parsed;
 
-// A number and the place after it.
-#[derive(Drop)]
-pub enum Word {
-    Other,
-    Value { value: u32, next: usize },
-}
-
-// Three numbers and the place after them.
-#[derive(Drop)]
-pub enum Triple {
-    Other,
-    Of {
-        first: u32,
-        second: u32,
-        third: u32,
-        next: usize,
-    },
-}
-
-// A scaling and the place after it.
-#[derive(Drop)]
-pub enum Scale {
-    Other,
-    Of { scaling: Scaling, next: usize },
-}
-
-// Whether there is a variance, and the place after line 1.
-#[derive(Drop)]
-pub enum Titles {
-    Other,
-    Of { noise: bool, next: usize },
-}
-
-// The settings and the place after line 2.
-#[derive(Drop)]
-pub enum Line {
-    Other,
-    Of { asked: Parameters, next: usize },
-}
-
-// The line that is refused, or the settings and the place of the first value's line.
-#[derive(Drop)]
-pub enum Above {
-    Refused(usize),
-    Of(Parameters, usize),
-}
-
-// The line that is refused, or that the values stand in memory.
-#[derive(Drop)]
-pub enum Values {
-    Refused(usize),
-    Read,
-}
-
-// The value of a lowercase hexadecimal digit, 16 where the byte is none.
-fn hex_digit(b: u8) -> u32
-    ensures { result ≡ hex_digit b }
+// The value of a lowercase hexadecimal digit.
+#[tactic(auto, unfolding(program_texts::specs::RunText::Texts::hex_digit))]
+fn hex_digit(b: u8) -> Option<u32>
+    ensures { HexDigit b result }
 {
-    if b < 48 {
-        return 16;
+    match b {
+        b'0'..=b'9' => Some(u32::from(b - b'0')),
+        b'a'..=b'f' => Some(u32::from(b - b'a') + 10),
+        _ => None,
     }
-    if b <= 57 {
-        return (b - 48) as u32;
-    }
-    if b < 97 {
-        return 16;
-    }
-    if b <= 102 {
-        return (b - 87) as u32;
-    }
-    16
 }
 
 // Eight hexadecimal digits at a place.
-fn hex_digits_at(s: &[u8], at: usize) -> Word
+fn hex_digits_at(s: &[u8], at: usize) -> Option<Parsed<u32>>
     requires { at ≤ length s.now }
-    ensures { WordAt (hex_digits 8 0) s.now at result }
+    ensures { ReadAt (hex_digits 8 0) s.now at result }
 {
-    let mut v: u32 = 0;
-    let mut i = at;
-    let mut k: usize = 0;
-    while k < 8 {
-        if s.len() <= i {
-            return Word::Other;
-        }
-        let d = hex_digit(s[i]);
-        if 16 <= d {
-            return Word::Other;
-        }
-        v = v * 16 + d;
-        i += 1;
-        k += 1;
+    let mut value = 0;
+    for k in 0..8 {
+        let &b = s.get(at + k)?;
+        value = value * 16 + hex_digit(b)?;
     }
-    Word::Value { value: v, next: i }
+    Some(Parsed {
+        value,
+        next: at + 8,
+    })
 }
 
 // A bit pattern at a place, with the byte x after it.
-pub fn pattern_at(s: &[u8], at: usize, x: u8) -> Word
+#[tactic(auto, unfolding(program_texts::specs::RunText::Texts::pattern))]
+pub fn pattern_at(s: &[u8], at: usize, x: u8) -> Option<Parsed<u32>>
     requires { at ≤ length s.now }
-    ensures { WordAt (pattern x) s.now at result }
+    ensures { ReadAt (pattern x) s.now at result }
 {
-    let w = hex_digits_at(s, at);
-    let Word::Value { value, next } = w else {
-        return Word::Other;
-    };
-    if s.len() <= next {
-        return Word::Other;
-    }
-    if s[next] != x {
-        return Word::Other;
-    }
-    Word::Value {
-        value,
-        next: next + 1,
-    }
+    let digits = hex_digits_at(s, at)?;
+    let next = lines::byte_at(s, digits.next, x)?;
+    Some(Parsed { next, ..digits })
 }
 
 // A decimal number of at most five digits at a place, with the byte x after it.
-fn setting_at(s: &[u8], at: usize, x: u8) -> Word
-    ensures { WordAt (setting x) s.now at result }
+#[tactic(auto, unfolding(program_texts::specs::RunText::Texts::setting))]
+fn setting_at(s: &[u8], at: usize, x: u8) -> Option<Parsed<u32>>
+    ensures { ReadAt (setting x) s.now at result }
 {
-    let n = lines::field_at(s, at, x);
-    let Number::Value { value, next } = n else {
-        return Word::Other;
-    };
-    if value <= 99999 {
-        return Word::Value {
-            value: value as u32,
-            next,
-        };
+    let Parsed { value, next } = lines::field_at(s, at, x)?;
+    if 99999 < value {
+        return None;
     }
-    Word::Other
+    Some(Parsed {
+        value: value as u32,
+        next,
+    })
 }
 
 // Three settings at a place, with the byte x after the last.
-fn settings_at(s: &[u8], at: usize, x: u8) -> Triple
-    ensures { TripleAt (settings x) s.now at result }
+#[tactic(auto, unfolding(program_texts::specs::RunText::Texts::settings))]
+fn settings_at(s: &[u8], at: usize, x: u8) -> Option<Parsed<(u32, u32, u32)>>
+    ensures { ThreeAt (settings x) s.now at result }
 {
-    let a = setting_at(s, at, b' ');
-    let Word::Value {
-        value: first,
-        next: i,
-    } = a
-    else {
-        return Triple::Other;
-    };
-    let b = setting_at(s, i, b' ');
-    let Word::Value {
-        value: second,
-        next: j,
-    } = b
-    else {
-        return Triple::Other;
-    };
-    let c = setting_at(s, j, x);
-    let Word::Value { value: third, next } = c else {
-        return Triple::Other;
-    };
-    Triple::Of {
-        first,
-        second,
-        third,
-        next,
-    }
+    let first = setting_at(s, at, b' ')?;
+    let second = setting_at(s, first.next, b' ')?;
+    let third = setting_at(s, second.next, x)?;
+    Some(Parsed {
+        value: (first.value, second.value, third.value),
+        next: third.next,
+    })
 }
 
 // The gain, and the variance where there is one.
-fn scaling_at(s: &[u8], at: usize, noise: bool) -> Scale
+#[tactic(auto, unfolding(program_texts::specs::RunText::Texts::scaling))]
+fn scaling_at(s: &[u8], at: usize, noise: bool) -> Option<Parsed<Scaling>>
     requires { at ≤ length s.now }
-    ensures { ScaleAt (scaling noise) s.now at result }
+    ensures { ReadAt (scaling noise) s.now at result }
 {
-    let a = pattern_at(s, at, b' ');
-    let Word::Value {
-        value: gain,
-        next: i,
-    } = a
-    else {
-        return Scale::Other;
-    };
+    let gain = pattern_at(s, at, b' ')?;
     if !noise {
-        return Scale::Of {
-            scaling: Scaling::Plain(words::float_of(gain)),
-            next: i,
-        };
+        return Some(Parsed {
+            value: Scaling::Plain(words::float_of(gain.value)),
+            next: gain.next,
+        });
     }
-    let b = pattern_at(s, i, b' ');
-    let Word::Value {
-        value: variance,
-        next,
-    } = b
-    else {
-        return Scale::Other;
-    };
-    Scale::Of {
-        scaling: Scaling::Noise(words::float_of(gain), words::float_of(variance)),
-        next,
-    }
+    let variance = pattern_at(s, gain.next, b' ')?;
+    Some(Parsed {
+        value: Scaling::Noise(words::float_of(gain.value), words::float_of(variance.value)),
+        next: variance.next,
+    })
 }
 
-// Line 1.
-pub fn titles_at(s: &[u8]) -> Titles
-    ensures { TitlesAt titles s.now result }
+// Line 1: whether there is a variance.
+#[tactic(auto, unfolding(program_texts::specs::RunText::Texts::titles))]
+pub fn titles_at(s: &[u8]) -> Option<Parsed<bool>>
+    ensures { ReadAt titles s.now 0 result }
 {
     let plain = lines::fixed_at(b"gain channel message phi_s phi_a phi_0 limit\n", s, 0);
-    if let Mark::After(next) = plain {
-        return Titles::Of { noise: false, next };
+    if let Some(next) = plain {
+        return Some(Parsed { value: false, next });
     }
-    let noise = lines::fixed_at(
+    let next = lines::fixed_at(
         b"gain variance channel message phi_s phi_a phi_0 limit\n",
         s,
         0,
-    );
-    if let Mark::After(next) = noise {
-        return Titles::Of { noise: true, next };
-    }
-    Titles::Other
+    )?;
+    Some(Parsed { value: true, next })
 }
 
-// Line 2.
-pub fn settings_line_at(s: &[u8], at: usize, noise: bool) -> Line
+// Line 2: the settings.
+#[tactic(auto, unfolding(program_texts::specs::RunText::Texts::settings_line))]
+pub fn settings_line_at(s: &[u8], at: usize, noise: bool) -> Option<Parsed<Parameters>>
     requires { at ≤ length s.now }
-    ensures { LineAt (settings_line noise) s.now at result }
+    ensures { ReadAt (settings_line noise) s.now at result }
 {
-    let x = scaling_at(s, at, noise);
-    let Scale::Of { scaling, next: i } = x else {
-        return Line::Other;
-    };
-    let a = settings_at(s, i, b' ');
-    let Triple::Of {
-        first: channel,
-        second: message,
-        third: phi_s,
-        next: j,
-    } = a
-    else {
-        return Line::Other;
-    };
-    let b = settings_at(s, j, b'\n');
-    let Triple::Of {
-        first: phi_a,
-        second: phi_0,
-        third: limit,
-        next,
-    } = b
-    else {
-        return Line::Other;
-    };
-    Line::Of {
-        asked: Parameters {
-            scaling,
+    let scaling = scaling_at(s, at, noise)?;
+    let first = settings_at(s, scaling.next, b' ')?;
+    let (channel, message, phi_s) = first.value;
+    let second = settings_at(s, first.next, b'\n')?;
+    let (phi_a, phi_0, limit) = second.value;
+    Some(Parsed {
+        value: Parameters {
+            scaling: scaling.value,
             channel,
             message,
             phi_s,
@@ -267,6 +136,6 @@ pub fn settings_line_at(s: &[u8], at: usize, noise: bool) -> Line
             lift_from: channel::NEVER,
             lift_to: channel::LARGEST_LIFT,
         },
-        next,
-    }
+        next: second.next,
+    })
 }

@@ -1,6 +1,6 @@
 -- The loop of a run: from whatever state it goes on, each turn is one iteration more, and it ends where the run halts.
 use mathlib.Core.Path.{◌≡◌, refl, sym, ap, ap₂, ◌∙◌, subst}
-use mathlib.Core.Bool.{Bool, true, false, cond, ◌||◌, true≢false}
+use mathlib.Core.Bool.{Bool, true, false, ◌||◌, true≢false}
 use mathlib.Core.List.{List}
 use Prim.Native.Nat.{ℕ, zero, suc, ◌+◌, ◌-◌, ◌≤◌, ◌<◌}
 use native.Mathlib.Numerals.{add-one}
@@ -20,10 +20,6 @@ or_none : (a b : Bool) → a || b ≡ false → (a ≡ false) × (b ≡ false)
 or_none true b h = absurd (true≢false h)
 or_none false b h = (refl, h)
 
--- what is sent where the run goes on
-pub sent_on : {w : Bool} (q q' : List ℕ) {q₁ : List ℕ} → w ≡ false → q₁ ≡ cond w q q' → q₁ ≡ q'
-sent_on q q' o e = e ∙ ap (λ b. cond b q q') o
-
 module _ (G : Graph) (R : Scheme) (limit N : ℕ) where
   -- k iterations after the state σ the run is in iteration t and open, and q holds what is sent there
   pub record Goes (σ : State) (k t : ℕ) (q : List ℕ) : Type 0 where
@@ -31,34 +27,22 @@ module _ (G : Graph) (R : Scheme) (limit N : ℕ) where
     pub sends : InBytes N (sent G R (resumed G R limit k σ)) q
     pub more : resumed G R limit (suc k) σ ≡ next G R (resumed G R limit k σ)
 
-  -- In the loop: the lists q, C, S and b are as long as they were, and q holds what is sent in iteration t, whatever state q₀ held the messages of.
-  pub record Going (begun end : ℕ) (q₀ C₀ S₀ b₀ q C S b : List ℕ) (t : ℕ) : Type 0 where
+  -- In the loop: q holds what is sent in iteration t, whatever state q₀ held the messages of.
+  pub record Going (begun end : ℕ) (q₀ q : List ℕ) (t : ℕ) : Type 0 where
     pub from : begun ≤ t
     pub below : t < end
-    pub variable_messages : length q ≡ length q₀
-    pub check_messages : length C ≡ length C₀
-    pub sums : length S ≡ length S₀
-    pub bits : length b ≡ length b₀
     pub goes : (σ : State) → σ.iteration ≡ begun → InBytes N (sent G R σ) q₀ → (k : ℕ) → t ≡ begun + k → Goes σ k t q
 
-  pub going_none : {begun end : ℕ} {q C S b : List ℕ} → begun < end → Going begun end q C S b q C S b begun
+  pub going_none : {begun end : ℕ} {q : List ℕ} → begun < end → Going begun end q q begun
   unfolding resumed
-  going_none {begun} {end} {q} l = record {
-    from = omega arith;
-    below = l;
-    variable_messages = refl;
-    check_messages = refl;
-    sums = refl;
-    bits = refl;
-    goes = at;
-  }
+  going_none {begun} {end} {q} l = record { from = omega arith; below = l; goes = at }
     where
       at : (σ : State) → σ.iteration ≡ begun → InBytes N (sent G R σ) q → (k : ℕ) → begun ≡ begun + k → Goes σ k begun q
       at σ n h zero e = record { number = n; sends = h; more = resumed_first G R limit σ }
       at σ n h (suc k) e = absurd (omega arith)
 
   -- one iteration more, up to its bits b₁; w says whether they are a codeword
-  module _ {begun end : ℕ} {q₀ C₀ S₀ b₀ q C S b : List ℕ} {t : ℕ} (going : Going begun end q₀ C₀ S₀ b₀ q C S b t) {C₁ S₁ b₁ : List ℕ}
+  module _ {begun end : ℕ} {q₀ q : List ℕ} {t : ℕ} (going : Going begun end q₀ q t) {C₁ S₁ b₁ : List ℕ}
       (holds : (σ : State) → σ.iteration ≡ t → InBytes N (sent G R σ) q → Holds G (next G R σ) q C₁ S₁ b₁) where
     module _ (σ : State) (n : σ.iteration ≡ begun) (h : InBytes N (sent G R σ) q₀) where
       here : Goes σ (t - begun) t q
@@ -91,11 +75,9 @@ module _ (G : Graph) (R : Scheme) (limit N : ℕ) where
           let word : eqb (unsatisfied G (bit_at (resumed G R limit (suc (t - begun)) σ).bits)) 0 ≡ true = ap (λ u. eqb u 0) (sym after_odd) ∙ o in
           sym (resumed_over G R limit (t - begun) j σ (ap (λ b. b || leb limit (resumed G R limit (suc (t - begun)) σ).iteration) word)) ∙ ap (λ (i : ℕ). resumed G R limit i σ) k
 
-      -- at the end or at a codeword the run halts, and nothing is sent
-      pub going_over : {w : Bool} → w ≡ eqb (t + 1) end || eqb (unsatisfied G (bit_of_byte b₁)) 0 → w ≡ true → {q₁ : List ℕ} (q' : List ℕ) → q₁ ≡ cond w q q'
-          → Resumes G R limit (end - begun) σ (t + 1) q₁ C₁ S₁ b₁
-      going_over {w} e o {q₁} q' s =
-          subst (λ (l : List ℕ). Resumes G R limit (end - begun) σ (t + 1) l C₁ S₁ b₁) (sym (s ∙ ap (λ b. cond b q q') o)) (resumes (end - begun) (go (eqb (t + 1) end) refl (sym e ∙ o)))
+      -- at the end or at a codeword the run halts
+      pub going_over : eqb (t + 1) end || eqb (unsatisfied G (bit_of_byte b₁)) 0 ≡ true → Resumes G R limit (end - begun) σ (t + 1) q C₁ S₁ b₁
+      going_over o = resumes (end - begun) (go (eqb (t + 1) end) refl o)
         where
           go : (a : Bool) → eqb (t + 1) end ≡ a → a || eqb (unsatisfied G (bit_of_byte b₁)) 0 ≡ true → resumed G R limit (suc (t - begun)) σ ≡ resumed G R limit (end - begun) σ
           go true h k = at_end_lem (eqb-true (t + 1) end h)
@@ -108,21 +90,12 @@ module _ (G : Graph) (R : Scheme) (limit N : ℕ) where
           ap₂ (λ a b. a || b) (ap (λ u. eqb u 0) (sym after_odd) ∙ o)
           (ap (leb limit) after_number ∙ lt-leb limit (t + 1) l)
 
-    pub going_more : {w : Bool} → w ≡ eqb (t + 1) end || eqb (unsatisfied G (bit_of_byte b₁)) 0 → w ≡ false → end ≤ limit → {q₁ : List ℕ}
-        → length q₁ ≡ length q → length C₁ ≡ length C → length S₁ ≡ length S → length b₁ ≡ length b
-        → ((σ : State) → σ.iteration ≡ t → InBytes N (sent G R σ) q → InBytes N (sent G R (next G R σ)) q₁) → Going begun end q₀ C₀ S₀ b₀ q₁ C₁ S₁ b₁ (t + 1)
-    going_more {w} e o l {q₁} lq lC lS lb sends = record {
-      from = omega (arith, going.from);
-      below = omega (arith, going.below, d);
-      variable_messages = lq ∙ going.variable_messages;
-      check_messages = lC ∙ going.check_messages;
-      sums = lS ∙ going.sums;
-      bits = lb ∙ going.bits;
-      goes = at;
-    }
+    pub going_more : eqb (t + 1) end || eqb (unsatisfied G (bit_of_byte b₁)) 0 ≡ false → end ≤ limit → {q₁ : List ℕ}
+        → ((σ : State) → σ.iteration ≡ t → InBytes N (sent G R σ) q → InBytes N (sent G R (next G R σ)) q₁) → Going begun end q₀ q₁ (t + 1)
+    going_more o l {q₁} sends = record { from = omega (arith, going.from); below = omega (arith, going.below, d); goes = at }
       where
         none : (eqb (t + 1) end ≡ false) × (eqb (unsatisfied G (bit_of_byte b₁)) 0 ≡ false)
-        none = or_none (eqb (t + 1) end) (eqb (unsatisfied G (bit_of_byte b₁)) 0) (sym e ∙ o)
+        none = or_none (eqb (t + 1) end) (eqb (unsatisfied G (bit_of_byte b₁)) 0) o
 
         d : t + 1 ≡ end → ⊥
         d = eqb-false (t + 1) end none.0

@@ -1,4 +1,5 @@
 -- Laws of settings: their refusals in order, and what is known of those that are not turned down.
+use Rattle.std.specs.Prelude.{Ok, Err}
 use mathlib.Core.Path.{◌≡◌, refl, sym, ap, ◌∙◌, subst}
 use mathlib.Core.Bool.{Bool, true, false, not, ◌&&◌, ◌||◌, true≢false}
 use Prim.Native.Nat.{ℕ, ◌-◌, ◌≤◌, ◌<◌}
@@ -8,17 +9,15 @@ use lib.Dec.{eqb, leb, ltb}
 use lib.Ieee.{Float}
 use Rattle.rules.specs.Levels.{largest}
 use Rattle.rules.specs.Nodes.{never}
-use Rattle.refusals.specs.Refusals.{unless, or_else}
+use Rattle.refusals.specs.Refusals.{unless, or_else, Judged}
 use Rattle.refusals.specs.declared.Refusal.TheVariants as Refusal
-use Rattle.refusals.specs.declared.Judged.{Judged}
 use Rattle.refusals.proofs.Judging.{refused_not}
 use Rattle.rules.proofs.Tests.{and_left, and_right}
 use Rattle.rules.proofs.Own.{largest_within}
 use Rattle.settings.specs.declared.Parameters.{Parameters}
 use Rattle.settings.specs.declared.Settings.{Settings}
-use Rattle.settings.specs.declared.Checked.TheVariants.{Good}
 use Rattle.settings.specs.Scaling.{factor_of, scaling_admitted, infinite_or_zero}
-use Rattle.settings.specs.Settings.{largest_lift, precisions_admitted, options_admitted, lifting_admitted, settings_judged, settings, checked, settings_of}
+use Rattle.settings.specs.Settings.{largest_lift, precisions_admitted, options_admitted, lifting_admitted, settings_judged, settings, checked, settings_of, Checked}
 use Rattle.settings.specs.Theorems.{Admissible, GoodSettings, JudgedAsBefore}
 use Rattle.settings.proofs.Factors.{factor_positive}
 
@@ -35,8 +34,8 @@ module _ (p : Parameters) where
   tested hp ho hl hg hf = cc
 
   pub with_factor : {f : Float} → f ≡ factor_of p.scaling
-      → Good (record { factor = f; channel = p.channel; message = p.message; phi_s = p.phi_s; phi_a = p.phi_a; phi_0 = p.phi_0; limit = p.limit; lift_from = p.lift_from; lift_to = p.lift_to })
-      ≡ Good (settings p)
+      → ◌≡◌ {A = Checked} (Ok (record { factor = f; channel = p.channel; message = p.message; phi_s = p.phi_s; phi_a = p.phi_a; phi_0 = p.phi_0; limit = p.limit; lift_from = p.lift_from; lift_to = p.lift_to }))
+      (Ok (settings p))
   with_factor e = cc
 
 either : {P : Type 0} (a b : Bool) → (a ≡ true → P) → (b ≡ true → P) → a || b ≡ true → P
@@ -75,11 +74,11 @@ lifting_bounds p h =
     let t = four_true (leb 1 p.lift_from) (leb p.lift_from never) (ltb (largest p.message) p.lift_to) (leb p.lift_to largest_lift) h in
     (leb-true 1 p.lift_from t.0, leb-true p.lift_from never t.1, ltb-true (largest p.message) p.lift_to t.2, leb-true p.lift_to largest_lift t.3)
 
-checked_good : (j : Judged) (made s : Settings) → checked j made ≡ Good s → (j ≡ Judged.Admitted) × (s ≡ made)
-checked_good Judged.Admitted made s h = (refl, cc)
-checked_good (Judged.Refused r) made s h = let z : ◌≡◌ {A = ℕ} 0 1 = cc in absurd (omega arith)
+checked_good : (j : Judged) (made s : Settings) → checked j made ≡ Ok s → (j ≡ Ok tt) × (s ≡ made)
+checked_good (Ok _) made s h = (refl, cc)
+checked_good (Err r) made s h = let z : ◌≡◌ {A = ℕ} 0 1 = cc in absurd (omega arith)
 
-all_pass : (p o l g f : Bool) → in_order p o l g f ≡ Judged.Admitted → (p ≡ true) × (o ≡ true) × (l ≡ true) × (g ≡ true) × (f ≡ true)
+all_pass : (p o l g f : Bool) → in_order p o l g f ≡ Ok tt → (p ≡ true) × (o ≡ true) × (l ≡ true) × (g ≡ true) × (f ≡ true)
 all_pass true true true true true h = (refl, refl, refl, refl, refl)
 all_pass true true true true false h = absurd (refused_not h)
 all_pass true true true false f h = absurd (refused_not h)
@@ -119,6 +118,6 @@ judged_as_before p hL hW = go (precisions_admitted p.channel p.message) refl
     rest l = or_else (unless (options_admitted p) Refusal.Option) (or_else l (or_else (unless (scaling_admitted p.scaling) Refusal.Scaling) (unless (not (infinite_or_zero (factor_of p.scaling))) Refusal.Factor)))
 
     go : (b : Bool) → precisions_admitted p.channel p.message ≡ b
-        → or_else (unless b Refusal.Precision) (rest (unless (lifting_admitted p) Refusal.Lifting)) ≡ or_else (unless b Refusal.Precision) (rest Judged.Admitted)
+        → or_else (unless b Refusal.Precision) (rest (unless (lifting_admitted p) Refusal.Lifting)) ≡ or_else (unless b Refusal.Precision) (rest (Ok tt))
     go true h = ap (λ l. rest (unless l Refusal.Lifting)) (admitted h)
     go false h = refl

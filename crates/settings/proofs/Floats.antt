@@ -1,14 +1,15 @@
 -- Laws of floats: the code's comparisons, the sign bit, the size, and bit patterns.
 use mathlib.Core.Path.{◌≡◌, refl, sym, ap, ◌∙◌, subst}
-use mathlib.Core.Bool.{Bool, true, false, not, cond, ◌&&◌, ◌||◌, beq, true≢false}
-use Prim.Native.Nat.{ℕ, zero, suc, ◌+◌, ◌*◌, ◌/◌, ◌%◌, ◌^◌, ◌<◌}
+use mathlib.Core.Bool.{Bool, true, false, not, cond, true≢false}
+use Prim.Native.Nat.{ℕ, zero, suc, ◌+◌, ◌/◌, ◌%◌, ◌^◌, ◌<◌}
 use native.Mathlib.Omega.{arith}
 use borrow.Author.Tests.{ltb-true, ltb-false, eq-eqb, ne_eqb, le-leb, lt-leb}
 use lib.Dec.{T, leb, ltb, eqb}
-use lib.Ieee.{Float, nan, inf, fin, binary32, div, neg, lt, ne, eq, up, down, of_int, of_bits, of_fields, odd, to_bits, fits, is_nan}
-use lib.Ieee.Bits.{of_bits-to_bits}
+use lib.Ieee.{Float, nan, inf, fin, binary32, neg, of_int, of_bits, of_fields, odd, to_bits, fits, is_nan, nan_bits}
+use lib.Ieee.Bits.{of_bits-to_bits, nan_bits_is}
 use lib.Ieee.Scale.{finite}
-use Rattle.settings.specs.Scaling.{whole, positive}
+use Rattle.std.specs.Float.{float_is_finite, is_sign_negative}
+use Rattle.settings.specs.Scaling.{whole}
 use Rattle.settings.specs.Quantiser.{sign_bit, size}
 
 -- ---- the code's constants and comparisons
@@ -21,49 +22,43 @@ pub two_is : of_bits binary32 0x4000_0000 ≡ whole 2
 unfolding of_bits of_int
 two_is = refl
 
-zero_is : of_bits binary32 0 ≡ whole 0
+pub zero_is : of_bits binary32 0 ≡ whole 0
 unfolding of_bits of_int
 zero_is = refl
 
-infinity_is : div binary32 (of_bits binary32 0x3f80_0000) (of_bits binary32 0) ≡ inf false
-unfolding of_bits div
-infinity_is = refl
+-- ---- the library's words
 
-and_true : (b : Bool) → b && true ≡ b
-and_true true = refl
-and_true false = refl
+pub same_finite : (x : Float) → float_is_finite x ≡ finite x
+unfolding float_is_finite
+same_finite nan = refl
+same_finite (inf s) = refl
+same_finite (fin s m e) = refl
 
-compared : (x : Float) → lt (whole 0) x && lt x (inf false) ≡ positive x
-unfolding lt of_int positive
-compared nan = refl
-compared (inf true) = refl
-compared (inf false) = refl
-compared (fin s m e) = and_true _
+pub same_sign : (y : Float) → is_sign_negative y ≡ sign_bit y
+unfolding is_sign_negative
+same_sign nan = refl
+same_sign (inf s) = refl
+same_sign (fin s m e) = refl
 
--- above 0.0 and below 1.0 / 0.0
-pub positive_is : (x : Float) → lt (of_bits binary32 0) x && lt x (div binary32 (of_bits binary32 0x3f80_0000) (of_bits binary32 0)) ≡ positive x
-positive_is x = rw (infinity_is, zero_is) (compared x)
+-- ---- the NaN
 
--- ---- only the NaN is not equal to itself
+only_nan : (y : Float) → is_nan y ≡ true → y ≡ nan
+unfolding is_nan
+only_nan nan h = refl
+only_nan (inf s) h = absurd (true≢false (sym h))
+only_nan (fin s m e) h = absurd (true≢false (sym h))
 
-sign_same : (s : Bool) → beq s s ≡ true
-sign_same true = refl
-sign_same false = refl
+pub nan_sign : (y : Float) → is_nan y ≡ true → false ≡ sign_bit y
+nan_sign y h = rw (only_nan y h)
 
-pub other_nan : (y : Float) → ne y y ≡ true → false ≡ sign_bit y
-unfolding ne eq
-other_nan nan h = refl
-other_nan (inf s) h = absurd (true≢false (sym h ∙ ap not (sign_same s)))
-other_nan (fin s m e) h = absurd (true≢false (sym h ∙ ap not (level_same (m * up e * down e) s)))
-  where
-    level_same : (a : ℕ) (s : Bool) → eqb a a && (beq s s || eqb a 0) ≡ true
-    level_same a s = rw (eq-eqb a a refl, sign_same s)
+pub nan_size : (y : Float) → is_nan y ≡ true → y ≡ size y
+nan_size y h = rw (only_nan y h)
 
-pub same_number : (y : Float) → ne y y ≡ false → T (not (is_nan y))
-unfolding ne eq is_nan
-same_number nan h = absurd (true≢false h)
-same_number (inf s) h = tt
-same_number (fin s m e) h = tt
+size_number : (y : Float) → is_nan (size y) ≡ is_nan y
+unfolding is_nan
+size_number nan = refl
+size_number (inf s) = refl
+size_number (fin s m e) = refl
 
 -- ---- the negative
 
@@ -83,11 +78,6 @@ finite_neg (fin s m e) = refl
 
 -- ---- bit patterns: the sign, the exponent's field and the digits
 
-odd_sign : (d : ℕ) (s : Bool) (q k l : ℕ) → sign_bit (odd d s q k l) ≡ s
-unfolding odd
-odd_sign d s zero k l = refl
-odd_sign d s (suc q) k l = refl
-
 odd_finite : (d : ℕ) (s : Bool) (q k l : ℕ) → finite (odd d s q k l) ≡ true
 unfolding odd
 odd_finite d s zero k l = refl
@@ -102,17 +92,6 @@ odd_neg : (d q k l : ℕ) → odd d true q k l ≡ neg (odd d false q k l)
 unfolding odd neg
 odd_neg d zero k l = refl
 odd_neg d (suc q) k l = refl
-
-fields_sign : (s : Bool) (x t : ℕ) → T (not (is_nan (of_fields binary32 s x t))) → s ≡ sign_bit (of_fields binary32 s x t)
-unfolding of_fields is_nan
-fields_sign s zero t h = sym (odd_sign 24 s t 0 149)
-fields_sign s (suc x) t h = go (eqb (suc x) 255) (eqb t 0) h
-  where
-    go : (a b : Bool) → T (not (is_nan (cond a (cond b (inf s) nan) (odd 24 s (8388608 + t) x 149))))
-        → s ≡ sign_bit (cond a (cond b (inf s) nan) (odd 24 s (8388608 + t) x 149))
-    go true true h = refl
-    go true false h = absurd h
-    go false b h = sym (odd_sign 24 s (8388608 + t) x 149)
 
 fields_finite : (s : Bool) (x t : ℕ) → not (eqb x 255) ≡ finite (of_fields binary32 s x t)
 unfolding of_fields
@@ -145,13 +124,6 @@ fields_neg (suc x) t = go (eqb (suc x) 255) (eqb t 0)
     go true false = refl
     go false b = odd_neg 24 (8388608 + t) x 149
 
--- the sign bit is the pattern's highest bit
-pub sign_is : (y : Float) → T (fits binary32 y) → T (not (is_nan y)) → leb 2147483648 (to_bits binary32 y) ≡ sign_bit y
-unfolding of_bits
-sign_is y f h =
-    let e : of_bits binary32 (to_bits binary32 y) ≡ y = of_bits-to_bits binary32 y f in
-    fields_sign (leb 2147483648 (to_bits binary32 y)) (to_bits binary32 y % 2147483648 / 8388608) (to_bits binary32 y % 8388608) (subst (λ (z : Float). T (not (is_nan z))) (sym e) h) ∙ ap sign_bit e
-
 -- the size is the pattern without that bit
 pub size_is : (y : Float) → T (fits binary32 y) → of_bits binary32 (to_bits binary32 y % 2147483648) ≡ size y
 unfolding of_bits
@@ -162,13 +134,9 @@ size_is y f =
     let digits : u % 2147483648 % 8388608 ≡ u % 8388608 = omega arith in
     rw (clear, low, digits) (fields_size (leb 2147483648 u) (u % 2147483648 / 8388608) (u % 8388608)) ∙ ap size (of_bits-to_bits binary32 y f)
 
-pub size_nan : (y : Float) → ne y y ≡ true → y ≡ size y
-size_nan y h = go y (other_nan y h)
-  where
-    go : (z : Float) → false ≡ sign_bit z → z ≡ size z
-    go nan e = refl
-    go (inf s) e = ap inf (sym e)
-    go (fin s m e) p = ap (λ b. fin b m e) (sym p)
+-- .. and no NaN's where y is none
+pub size_pattern : (y : Float) → T (fits binary32 y) → is_nan y ≡ false → T (not (nan_bits binary32 (to_bits binary32 y % 2147483648)))
+size_pattern y f h = subst T (sym (ap not (nan_bits_is binary32 (to_bits binary32 y % 2147483648) ∙ ap is_nan (size_is y f) ∙ size_number y ∙ h))) tt
 
 -- a finite pattern is below that of infinity, the sign left out
 pub finite_is : (u : ℕ) → ltb (u % 2147483648) 2139095040 ≡ finite (of_bits binary32 u)

@@ -1,4 +1,5 @@
 -- Values with signs reversed: their bytes, their values, how they are judged, and their levels.
+use Rattle.std.specs.Prelude.{Ok}
 use mathlib.Core.Path.{◌≡◌, refl, sym, ap, ◌∙◌}
 use mathlib.Core.Bool.{Bool, true, false, cond, ◌&&◌, xor, true≢false}
 use mathlib.Core.List.{List}
@@ -14,7 +15,6 @@ use Rattle.rules.specs.Levels.{blank}
 use Rattle.refusals.specs.Refusals.{unless, or_else, each}
 use Rattle.rules.specs.Symmetry.{turned}
 use Rattle.refusals.specs.declared.Refusal.TheVariants.{Value}
-use Rattle.refusals.specs.declared.Judged.TheVariants.{Admitted}
 use Rattle.rules.proofs.Ranges.{fold_ext, length_tabulate, get_d_tabulate}
 use Rattle.refusals.proofs.Judging.{all_true}
 use Rattle.rules.proofs.Blanks.{blank_same}
@@ -126,7 +126,7 @@ pub reversed_judged : ReversedJudged
 unfolding each
 reversed_judged c values ok =
     ap (λ n. each (λ v. unless (finite (value_at (reversed c values) v)) (Value v)) (n / 4)) (length_reversed c values)
-    ∙ fold_ext or_else Admitted (λ v. unless (finite (value_at (reversed c values) v)) (Value v)) (λ v. unless (finite (value_at values v)) (Value v)) 0 (length values / 4)
+    ∙ fold_ext or_else (Ok tt) (λ v. unless (finite (value_at (reversed c values) v)) (Value v)) (λ v. unless (finite (value_at values v)) (Value v)) 0 (length values / 4)
     (λ v l u. ap (λ b. unless b (Value v)) (finite_reversed c values ok v (omega arith)))
 
 pub reversed_levels : ReversedLevels

@@ -1,15 +1,12 @@
 -- Document 01, 'Decode', refusals 8 to 11, and document 02, item 1, refusal 16: the settings, or why they are turned down.
-use Rattle.std.specs.Prelude.{Bool, not, ◌&&◌, ◌||◌, ℕ, ◌-◌, eqb, leb, ltb}
+use Rattle.std.specs.Prelude.{Bool, not, ◌&&◌, ◌||◌, ℕ, ◌-◌, eqb, leb, ltb, Ok, Err, Result}
 use Rattle.rules.specs.Levels.{largest}
 use Rattle.rules.specs.Nodes.{never}
-use Rattle.refusals.specs.Refusals.{unless, or_else}
-use Rattle.refusals.specs.declared.Refusal.TheVariants as Refusal
-use Rattle.refusals.specs.declared.Judged.{Judged}
+use Rattle.refusals.specs.Refusals.{unless, or_else, Judged}
 use Rattle.settings.specs.declared.Parameters.{Parameters}
 use Rattle.settings.specs.declared.Settings.{Settings}
-use Rattle.settings.specs.declared.Checked.{Checked}
-use Rattle.settings.specs.declared.Checked.TheVariants.{Good, Refused}
 use Rattle.settings.specs.Scaling.{factor_of, scaling_admitted, infinite_or_zero}
+use Rattle.refusals.specs.declared.Refusal.{Refusal}
 
 -- The largest W.
 abbrev pub largest_lift : ℕ
@@ -56,10 +53,14 @@ module _ (p : Parameters) where
     lift_to = p.lift_to;
   }
 
+-- The settings, or the refusal.
+abbrev pub Checked : Type 0
+Checked = Result Settings Refusal
+
 -- The settings, unless they were turned down.
 abbrev pub checked : Judged → Settings → Checked
-checked Judged.Admitted s = Good s
-checked (Judged.Refused r) s = Refused r
+checked (Ok _) s = Ok s
+checked (Err r) s = Err r
 
 -- The settings, or why they are turned down.
 unfoldable pub settings_of : Parameters → Checked

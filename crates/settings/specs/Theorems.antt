@@ -1,12 +1,10 @@
 -- What is promised of settings and levels. Each statement is a type; proofs/ has a proof of each.
-use Rattle.std.specs.Prelude.{◌≡◌, Bool, true, List, ℕ, ◌/◌, ◌≤◌, ◌<◌, Float, length}
+use Rattle.std.specs.Prelude.{◌≡◌, Bool, true, List, ℕ, ◌/◌, ◌≤◌, ◌<◌, Float, length, Ok}
 use Rattle.rules.specs.Levels.{largest}
 use Rattle.rules.specs.Nodes.{never}
 use Rattle.rules.specs.Symmetry.{turned}
-use Rattle.refusals.specs.declared.Judged.TheVariants.{Admitted}
 use Rattle.settings.specs.declared.Parameters.{Parameters}
 use Rattle.settings.specs.declared.Settings.{Settings}
-use Rattle.settings.specs.declared.Checked.TheVariants.{Good}
 use Rattle.settings.specs.Scaling.{positive}
 use Rattle.settings.specs.Quantiser.{level_for}
 use Rattle.settings.specs.Settings.{largest_lift, judged_with, settings_judged, settings, settings_of}
@@ -27,11 +25,11 @@ pub record Admissible (s : Settings) : Type 0 where
   pub lifting : (1 ≤ s.lift_from) × (s.lift_from ≤ never) × (largest s.message < s.lift_to) × (s.lift_to ≤ largest_lift)
 
 abbrev pub GoodSettings : Type 0
-GoodSettings = (p : Parameters) (s : Settings) → settings_of p ≡ Good s → (s ≡ settings p) × Admissible s
+GoodSettings = (p : Parameters) (s : Settings) → settings_of p ≡ Ok s → (s ≡ settings p) × Admissible s
 
 -- L = 256 with W = 15, which the run text means, is admitted at every precision: such settings are judged as they were before there was 16.
 abbrev pub JudgedAsBefore : Type 0
-JudgedAsBefore = (p : Parameters) → p.lift_from ≡ never → p.lift_to ≡ largest_lift → settings_judged p ≡ judged_with p Admitted
+JudgedAsBefore = (p : Parameters) → p.lift_from ≡ never → p.lift_to ≡ largest_lift → settings_judged p ≡ judged_with p (Ok tt)
 
 -- Values with signs reversed are turned down where the values are, at the same index.
 abbrev pub ReversedJudged : Type 0
@@ -39,7 +37,7 @@ ReversedJudged = (c : ℕ → Bool) (values : List ℕ) → Bytes values → val
 
 -- Their levels are the values' levels, with the signs reversed where c.
 abbrev pub ReversedLevels : Type 0
-ReversedLevels = (c : ℕ → Bool) (values : List ℕ) → Bytes values → values_judged values ≡ Admitted
+ReversedLevels = (c : ℕ → Bool) (values : List ℕ) → Bytes values → values_judged values ≡ Ok tt
     → (N : ℕ) (factor : Float) (v : ℕ) → v < length values / 4
     → channel_level N factor (reversed c values) v ≡ turned (c v) (channel_level N factor values v)
 

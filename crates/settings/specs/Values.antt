@@ -3,9 +3,8 @@ use Rattle.std.specs.Prelude.{Bool, List, ◌++◌, ℕ, ◌/◌, min, Float, le
 use Rattle.std.specs.Float.Ieee.Scale.{finite}
 use Rattle.rules.specs.Ranges.{tabulate}
 use Rattle.rules.specs.Levels.{Level, byte, blank}
-use Rattle.refusals.specs.Refusals.{unless, each}
+use Rattle.refusals.specs.Refusals.{unless, each, Judged}
 use Rattle.refusals.specs.declared.Refusal.TheVariants.{Value}
-use Rattle.refusals.specs.declared.Judged.{Judged}
 use Rattle.words.specs.Roles.{value_at}
 use Rattle.settings.specs.Quantiser.{level_for}
 

@@ -1,7 +1,5 @@
-// What is asked of a run, and what a check of it finds. What they mean is in specs/.
+// What is asked of a run, and the settings once they are checked. What they mean is in specs/.
 #![tactic(auto)]
-
-use refusals::Refusal;
 
 // A plain gain, or a gain with a noise variance.
 #[derive(Clone, Copy)]
@@ -37,11 +35,4 @@ pub struct Settings {
     pub limit: u8,
     pub lift_from: u16,
     pub lift_to: u8,
-}
-
-// What a check of settings finds.
-#[derive(Drop)]
-pub enum Checked {
-    Good(Settings),
-    Refused(Refusal),
 }

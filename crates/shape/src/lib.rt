@@ -1,36 +1,29 @@
 // The check of a graph up to its degrees: counts, starts, columns and rows.
 #![tactic(auto)]
 
-ghost use Rattle.std.specs.Prelude.{◌≡◌, ◌-◌, ◌/◌, ◌≤◌, ◌<◌, length};
+ghost use Rattle.std.specs.Prelude.{◌≡◌, ◌≤◌};
 ghost use Rattle.rules.specs.Graphs.{limits};
-ghost use Rattle.refusals.specs.declared.Judged.TheVariants as Judgement;
-ghost use Rattle.words.specs.Roles.{wide, column_at, graph_of};
+ghost use Rattle.words.specs.Roles.{graph_lent};
 ghost use Rattle.graphs.specs.Judging.{counts_judged, start_is_fit, starts_judged, columns_judged, span_judged, rows_judged, shape_judged};
 
-use refusals::{Judged, Refusal};
-
-// How many checks the starts make.
-pub fn checks(starts: &[u8]) -> usize
-    ensures { result ≡ length starts.now / wide - 1 }
-{
-    let s = starts.len() / words::WIDE;
-    if s == 0 { 0 } else { s - 1 }
-}
+use refusals::Refusal;
+use words::Graph;
 
 // 2: the counts.
-fn check_counts(n: usize, starts: &[u8], columns: &[u8]) -> Judged
-    ensures { result ≡ counts_judged limits (graph_of n starts.now columns.now) }
+fn check_counts(graph: Graph) -> Result<(), Refusal>
+    ensures { result ≡ counts_judged limits (graph_lent graph.entry) }
 {
-    if !rules::in_range(rules::FEWEST_VARIABLES, n, rules::MOST_VARIABLES) {
-        return Judged::Refused(Refusal::Count(0));
+    let variables = rules::in_range(
+        rules::FEWEST_VARIABLES,
+        graph.variables,
+        rules::MOST_VARIABLES,
+    );
+    let checks = rules::in_range(rules::FEWEST_CHECKS, graph.checks(), rules::MOST_CHECKS);
+    if variables && checks && graph.entries() <= rules::MOST_ENTRIES {
+        Ok(())
+    } else {
+        Err(Refusal::Count(0))
     }
-    if !rules::in_range(rules::FEWEST_CHECKS, checks(starts), rules::MOST_CHECKS) {
-        return Judged::Refused(Refusal::Count(0));
-    }
-    if rules::MOST_ENTRIES < columns.len() / words::WIDE {
-        return Judged::Refused(Refusal::Count(0));
-    }
-    Judged::Admitted
 }
 
 // Whether start i, which is s and comes after last, is good.
@@ -41,91 +34,65 @@ fn start_good(i: usize, m: usize, count: usize, last: usize, s: usize) -> bool
 }
 
 // 7: the starts.
-fn check_starts(n: usize, starts: &[u8], columns: &[u8]) -> Judged
-    requires { counts_judged limits (graph_of n starts.now columns.now) ≡ Judgement.Admitted }
-    ensures { result ≡ starts_judged (graph_of n starts.now columns.now) }
+fn check_starts(graph: Graph) -> Result<(), Refusal>
+    requires { counts_judged limits (graph_lent graph) ≡ Ok tt }
+    ensures { result ≡ starts_judged (graph_lent graph.entry) }
 {
-    let m = checks(starts);
-    let count = columns.len() / words::WIDE;
-    let mut last = words::start(starts, 0);
-    let mut next = 0;
-    while next < m + 1 {
-        let s = words::start(starts, next);
-        if !start_good(next, m, count, last, s) {
-            return Judged::Refused(Refusal::Start(next));
+    let m = graph.checks();
+    let mut last = graph.start(0);
+    for i in 0..m + 1 {
+        let s = graph.start(i);
+        if !start_good(i, m, graph.entries(), last, s) {
+            return Err(Refusal::Start(i));
         }
         last = s;
-        next += 1;
     }
-    Judged::Admitted
+    Ok(())
 }
 
 // 3: the columns.
-fn check_columns(n: usize, starts: &[u8], columns: &[u8]) -> Judged
-    ensures { result ≡ columns_judged (graph_of n starts.now columns.now) }
+fn check_columns(graph: Graph) -> Result<(), Refusal>
+    ensures { result ≡ columns_judged (graph_lent graph.entry) }
 {
-    let count = columns.len() / words::WIDE;
-    let mut e = 0;
-    while e < count {
-        if n <= words::column(columns, e) {
-            return Judged::Refused(Refusal::Range(e));
+    for e in 0..graph.entries() {
+        if graph.variables <= graph.column(e) {
+            return Err(Refusal::Range(e));
         }
-        e += 1;
     }
-    Judged::Admitted
+    Ok(())
 }
 
 // 4: the order of the columns from entry a to before entry b.
-fn check_row(columns: &[u8], a: usize, b: usize) -> Judged
-    requires { (a ≤ b) × (b ≤ length columns.now / wide) }
-    ensures { result ≡ span_judged (column_at columns.now) a b }
+fn check_row(graph: Graph, a: usize, b: usize) -> Result<(), Refusal>
+    requires { (a ≤ b) × (b ≤ (graph_lent graph).entries) }
+    ensures { result ≡ span_judged (graph_lent graph.entry).column a b }
 {
-    let mut k = 0;
-    while a + k + 1 < b {
-        if words::column(columns, a + k + 1) <= words::column(columns, a + k) {
-            return Judged::Refused(Refusal::Order(a + k + 1));
+    for e in a + 1..b {
+        if graph.column(e) <= graph.column(e - 1) {
+            return Err(Refusal::Order(e));
         }
-        k += 1;
     }
-    Judged::Admitted
+    Ok(())
 }
 
 // 4: the order of the columns in all rows.
-fn check_rows(n: usize, starts: &[u8], columns: &[u8]) -> Judged
-    requires { starts_judged (graph_of n starts.now columns.now) ≡ Judgement.Admitted }
-    ensures { result ≡ rows_judged (graph_of n starts.now columns.now) }
+fn check_rows(graph: Graph) -> Result<(), Refusal>
+    requires { starts_judged (graph_lent graph) ≡ Ok tt }
+    ensures { result ≡ rows_judged (graph_lent graph.entry) }
 {
-    let m = checks(starts);
-    let mut i = 0;
-    while i < m {
-        let j = check_row(
-            columns,
-            words::start(starts, i),
-            words::start(starts, i + 1),
-        );
-        if let Judged::Refused(r) = j {
-            return Judged::Refused(r);
-        }
-        i += 1;
+    for i in 0..graph.checks() {
+        check_row(graph, graph.start(i), graph.start(i + 1))?;
     }
-    Judged::Admitted
+    Ok(())
 }
 
 // 2, 7, 3, 4: all that comes before the degrees.
-pub fn check_shape(n: usize, starts: &[u8], columns: &[u8]) -> Judged
-    ensures { result ≡ shape_judged limits (graph_of n starts.now columns.now) }
+#[tactic(auto, unfolding(graphs::specs::Judging::shape_judged))]
+pub fn check_shape(graph: Graph) -> Result<(), Refusal>
+    ensures { result ≡ shape_judged limits (graph_lent graph.entry) }
 {
-    let j = check_counts(n, starts, columns);
-    if let Judged::Refused(r) = j {
-        return Judged::Refused(r);
-    }
-    let j = check_starts(n, starts, columns);
-    if let Judged::Refused(r) = j {
-        return Judged::Refused(r);
-    }
-    let j = check_columns(n, starts, columns);
-    if let Judged::Refused(r) = j {
-        return Judged::Refused(r);
-    }
-    check_rows(n, starts, columns)
+    check_counts(graph)?;
+    check_starts(graph)?;
+    check_columns(graph)?;
+    check_rows(graph)
 }

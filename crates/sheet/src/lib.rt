@@ -5,22 +5,20 @@ ghost use Rattle.std.specs.Prelude.{◌≡◌, List, ℕ, suc, ◌+◌, ◌*◌,
 ghost use Rattle.rules.specs.Graphs.{limits};
 ghost use Rattle.words.specs.Roles.{wide};
 ghost use Rattle.words.proofs.Filling.{Filled};
-ghost use Rattle.code_sheets.specs.Text.Scanning.{within, UpTo, largest_counts};
+ghost use Rattle.code_sheets.specs.Text.Scanning.{within, UpTo};
 ghost use Rattle.code_sheets.specs.Reader.Reading.{ReadInto, JudgedInto};
 ghost use Rattle.code_sheets.specs.Reader.Storing.{graph_from, EntriesAt, Stores, Finished};
 
-use code_sheets::{Counts, Scanned, Sheet};
-use refusals::Judged;
+use code_sheets::Counts;
+use refusals::Refusal;
 
 // Makes x every row start from place a to before place b.
 pub fn fill(starts: &mut [u8], a: usize, b: usize, x: usize)
     requires { (a ≤ b) × (wide * b ≤ length starts.old) × (x < 256 ^ wide) }
     ensures { (f : ℕ → ℕ) (old : List ℕ) → Filled wide f old starts.old a → ((i : ℕ) → a ≤ i → i < b → x ≡ f i) → Filled wide f old starts.new b }
 {
-    let mut i = a;
-    while i < b {
+    for i in a..b {
         words::put_start(starts, i, x);
-        i += 1;
     }
 }
 
@@ -31,17 +29,16 @@ fn store(text: &[u8], at: usize, counts: Counts, starts: &mut [u8], columns: &mu
     ensures { Stores (graph_from text.now counts at) starts.old starts.new columns.old columns.new }
 {
     let mut i = at;
-    let mut k: usize = 0;
     let mut filled: usize = 0;
-    while k < counts.entries {
+    for k in 0..counts.entries {
         let line = lines::known_line_at(text, i);
-        fill(starts, filled, line.first + 1, k);
-        words::put_column(columns, k, line.second);
-        filled = line.first + 1;
+        let (check, variable) = line.value;
+        fill(starts, filled, check + 1, k);
+        words::put_column(columns, k, variable);
+        filled = check + 1;
         i = line.next;
-        k += 1;
     }
-    fill(starts, filled, counts.checks + 1, k);
+    fill(starts, filled, counts.checks + 1, counts.entries);
 }
 
 // ---- the reader
@@ -53,17 +50,12 @@ fn judge_within(
     degrees: &mut [u8],
     starts: usize,
     columns: usize,
-) -> Judged
+) -> Result<(), Refusal>
     requires { UpTo most limits }
     ensures { JudgedInto (within most) text.now result degrees.old degrees.new starts columns }
 {
-    let scanned = sheet_text::scan(most, text);
-    match scanned {
-        Scanned::Refused(r) => Judged::Refused(r),
-        Scanned::Lines(counts, at) => sheet_lines::judge_lines(
-            text, at, counts, degrees, starts, columns,
-        ),
-    }
+    let (counts, at) = sheet_text::scan(most, text)?;
+    sheet_lines::judge_lines(text, at, counts, degrees, starts, columns)
 }
 
 // What follows the last line: only where nothing is refused are the starts and columns stored.
@@ -74,18 +66,15 @@ fn finish(
     degrees: &mut [u8],
     starts: &mut [u8],
     columns: &mut [u8],
-) -> Sheet
+) -> Result<Counts, Refusal>
     requires { EntriesAt text.now counts at }
     ensures { Finished (graph_from text.now counts at) result degrees.old degrees.new starts.old starts.new columns.old columns.new }
 {
     let room_starts = starts.len();
     let room_columns = columns.len();
-    let j = sheet_lines::judge_lines(text, at, counts, degrees, room_starts, room_columns);
-    if let Judged::Refused(r) = j {
-        return Sheet::Refused(r);
-    }
+    sheet_lines::judge_lines(text, at, counts, degrees, room_starts, room_columns)?;
     store(text, at, counts, starts, columns);
-    Sheet::Read(counts)
+    Ok(counts)
 }
 
 // Reads a sheet whose counts may be as large as `most`: the refusals in their order, and only then the starts and columns.
@@ -95,44 +84,43 @@ pub fn read_within(
     degrees: &mut [u8],
     starts: &mut [u8],
     columns: &mut [u8],
-) -> Sheet
+) -> Result<Counts, Refusal>
     requires { UpTo most limits }
     ensures { ReadInto (within most) text.now result degrees.old degrees.new starts.old starts.new columns.old columns.new }
 {
-    let scanned = sheet_text::scan(most, text);
-    match scanned {
-        Scanned::Refused(r) => {
-            return Sheet::Refused(r);
-        }
-        Scanned::Lines(counts, at) => {
-            return finish(text, at, counts, degrees, starts, columns);
-        }
-    }
+    let (counts, at) = sheet_text::scan(most, text)?;
+    finish(text, at, counts, degrees, starts, columns)
 }
 
 // ---- under the limits of a sheet
 
-// The largest counts of a sheet.
-fn most() -> Counts
-    ensures { result ≡ largest_counts }
-{
-    Counts {
-        variables: rules::MOST_VARIABLES,
-        checks: rules::MOST_CHECKS,
-        entries: rules::MOST_ENTRIES,
-    }
-}
+// The largest counts of a sheet: `largest_counts`.
+const MOST: Counts = Counts {
+    variables: rules::MOST_VARIABLES,
+    checks: rules::MOST_CHECKS,
+    entries: rules::MOST_ENTRIES,
+};
 
 // Number and place of what `read` refuses for lists of so many bytes; the list of degrees as that leaves it.
-pub fn judge_read(text: &[u8], degrees: &mut [u8], starts: usize, columns: usize) -> Judged
+pub fn judge_read(
+    text: &[u8],
+    degrees: &mut [u8],
+    starts: usize,
+    columns: usize,
+) -> Result<(), Refusal>
     ensures { JudgedInto limits text.now result degrees.old degrees.new starts columns }
 {
-    judge_within(most(), text, degrees, starts, columns)
+    judge_within(MOST, text, degrees, starts, columns)
 }
 
 // Reads a sheet: the refusals in their order, and only then the lists; counts the variables' degrees in the list lent for them.
-pub fn read(text: &[u8], degrees: &mut [u8], starts: &mut [u8], columns: &mut [u8]) -> Sheet
+pub fn read(
+    text: &[u8],
+    degrees: &mut [u8],
+    starts: &mut [u8],
+    columns: &mut [u8],
+) -> Result<Counts, Refusal>
     ensures { ReadInto limits text.now result degrees.old degrees.new starts.old starts.new columns.old columns.new }
 {
-    read_within(most(), text, degrees, starts, columns)
+    read_within(MOST, text, degrees, starts, columns)
 }

@@ -1,4 +1,5 @@
 -- The checks' degrees, judged as the entries' lines go by.
+use Rattle.std.specs.Prelude.{Err}
 use mathlib.Core.Path.{◌≡◌, refl, sym, ap, ◌∙◌}
 use mathlib.Core.Bool.{Bool, true, false}
 use Prim.Native.Nat.{ℕ, zero, suc, ◌+◌, ◌-◌, ◌≤◌, ◌<◌}
@@ -8,17 +9,15 @@ use native.Mathlib.Omega.{arith}
 use borrow.Author.Tests.{le-leb, lt-leb, le-ltb, lt-ltb}
 use lib.Dec.{leb}
 use Rattle.rules.specs.Graphs.{limits, least_check_degree, between}
-use Rattle.refusals.specs.Refusals.{unless, or_else, each}
+use Rattle.refusals.specs.Refusals.{unless, or_else, each, Judged}
 use Rattle.refusals.specs.declared.Refusal.{Refusal}
 use Rattle.refusals.specs.declared.Refusal.TheVariants.{Degree}
-use Rattle.refusals.specs.declared.Judged.{Judged}
-use Rattle.refusals.specs.declared.Judged.TheVariants.{Refused}
 use Rattle.refusals.proofs.Judging.{each_next, each_at}
 use Rattle.code_sheets.specs.Reader.Storing.{row_judged, lowest_passed, GoesOn}
 use Rattle.code_sheets.specs.declared.Rows.{Rows}
 
 -- what is refused early stays refused
-each_stays : (j : ℕ → Judged) (a d : ℕ) (r : Refusal) → each j a ≡ Refused r → each j (a + d) ≡ Refused r
+each_stays : (j : ℕ → Judged) (a d : ℕ) (r : Refusal) → each j a ≡ Err r → each j (a + d) ≡ Err r
 each_stays j a zero r e = ap (each j) (add-zero a) ∙ e
 each_stays j a (suc d) r e =
     let n : a + suc d ≡ a + d + 1 = omega arith in
@@ -32,7 +31,7 @@ module _ (start : ℕ → ℕ) (i c k : ℕ) (l : i < c) (s : (j : ℕ) → i < 
   here : row_judged start i ≡ unless (between least_check_degree degree limits.check_degree) (Degree i)
   here = ap (λ (a : ℕ). unless (between least_check_degree (a - start i) limits.check_degree) (Degree i)) (sym (s (suc i) (omega arith) l))
 
-  there : i + 1 < c → row_judged start (i + 1) ≡ Refused (Degree (i + 1))
+  there : i + 1 < c → row_judged start (i + 1) ≡ Err (Degree (i + 1))
   there u = rw (lt-leb least_check_degree (start (suc (i + 1)) - start (i + 1)) (omega (arith, s (suc (i + 1)) (omega arith) u, s (i + 1) (omega arith) (omega arith))))
 
   passed_is : (low : ℕ) → each (row_judged start) i ≡ unless (leb i low) (Degree low)

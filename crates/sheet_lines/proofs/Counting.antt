@@ -1,4 +1,5 @@
 -- The pass that counts: the degrees after some of the lines, one line on, and after the last.
+use Rattle.std.specs.Prelude.{Ok, Err}
 use mathlib.Core.Path.{◌≡◌, sym, ap, ◌∙◌, subst}
 use mathlib.Core.List.{List, ◌++◌}
 use Prim.Native.Nat.{ℕ, ◌+◌, ◌*◌, ◌/◌, ◌^◌, ◌≤◌, ◌<◌}
@@ -9,10 +10,8 @@ use borrow.Author.Tests.{le-leb, lt-leb}
 use lib.Dec.{leb}
 use lib.ListN.{length, drop}
 use Rattle.rules.specs.Graphs.{limits, variable_degree}
-use Rattle.refusals.specs.Refusals.{unless, each}
+use Rattle.refusals.specs.Refusals.{unless, each, Judged}
 use Rattle.refusals.specs.declared.Refusal.TheVariants.{Degree}
-use Rattle.refusals.specs.declared.Judged.{Judged}
-use Rattle.refusals.specs.declared.Judged.TheVariants.{Admitted, Refused}
 use Rattle.refusals.proofs.Judging.{each_none}
 use Rattle.words.specs.Words.{stored, table}
 use Rattle.words.specs.Roles.{wide, column_at, degree_at}
@@ -28,7 +27,7 @@ use Rattle.code_sheets.specs.declared.Counts.{Counts}
 use Rattle.code_sheets.proofs.Text.Entries.{start_zero, column_within}
 use Rattle.code_sheets.specs.Reader.Storing.{lines_graph, graph_from, EntriesAt, row_judged, GoesOn, CountedInto}
 use Rattle.code_sheets.specs.declared.Rows.{Rows}
-use Rattle.sheet_lines.specs.Passing.{At, Reached, ReadTo, Ahead, ReadsOn}
+use Rattle.sheet_lines.specs.Passing.{At, Reached, ReadTo, ReadsOn}
 use Rattle.sheet_lines.specs.Adding.{Next, Addable, AddsOn}
 use Rattle.sheet_lines.proofs.Passing.{pass_none, pass_known, pass_numbers, pass_starts, pass_column, pass_more, pass_ends, entries_rising}
 
@@ -103,9 +102,6 @@ pub read_all : (size : ℕ) {s : List ℕ} {rows rows' : Rows} {i k j next : ℕ
     → ReadsOn s rows i k rows' next block size size
 read_all size {s} {rows' = rows'} {k = k} {next = next} {block} e on counts from q u = subst (ReadTo s counts from k rows' next block) e (on counts from q u)
 
-pub add_none : {block : List ℕ} {size : ℕ} {d : List ℕ} → AddsOn block size d d 0
-add_none {block} {size} {d} n column old k t x = subst (Tallies 4 n column old d) (sym (add-zero k)) t
-
 module _ {block : List ℕ} {size : ℕ} {d d₁ : List ℕ} {j : ℕ} (on : AddsOn block size d d₁ j) (l : j < size) {v : ℕ} (e : v ≡ column_at block j) where
   pub add_room : Addable block d size → (v < length d₁ / 4) × (degree_at d₁ v + 1 < 2 ^ 32)
   add_room a =
@@ -117,9 +113,6 @@ module _ {block : List ℕ} {size : ℕ} {d d₁ : List ℕ} {j : ℕ} (on : Add
   add_more {d₂} w n column old k t x =
       subst (Tallies 4 n column old d₂) (add_assoc k j 1)
       (tallies_more (on n column old k t x) (omega (arith, x.columns j l, x.within j l)) (omega (arith, x.small)) (e ∙ x.columns j l) w)
-
-pub add_all : {block : List ℕ} {size : ℕ} {d d' : List ℕ} {j : ℕ} → j ≡ size → AddsOn block size d d' j → AddsOn block size d d' size
-add_all {d' = d'} e on n column old k t x = subst (λ j. Tallies 4 n column old d' (k + j)) e (on n column old k t x)
 
 -- ---- the pass
 
@@ -134,9 +127,6 @@ counting_none {s} {counts} {from} older h e = record { reached = reached_none h;
 
 module _ {s : List ℕ} {counts : Counts} {from : ℕ} {old now : List ℕ} {rows : Rows} {i k : ℕ} (q : Counting s counts from old now rows i k) where
   module _ {size : ℕ} (l : k + size ≤ counts.entries) where
-    pub counting_ahead : Ahead s rows i k size
-    counting_ahead = record { counts = counts; from = from; reached = q.reached; enough = l }
-
     module _ {rows' : Rows} {next : ℕ} {block : List ℕ} (on : ReadsOn s rows i k rows' next block size size) where
       block_next : Next counts.variables (graph_from s counts from).column block k size
       block_next = let w = q.reached.pass.held in record {
@@ -162,9 +152,6 @@ module _ {s : List ℕ} {counts : Counts} {from : ℕ} {old now : List ℕ} {row
         tallies = a counts.variables (graph_from s counts from).column old k q.tallies block_next;
       }
 
-  pub counting_last : rows.check ≤ counts.checks
-  counting_last = omega (arith, q.reached.pass.at.high)
-
   -- after the last line
   module _ (e : k ≡ counts.entries) {rows' : Rows} (g : GoesOn rows counts.checks k rows') (older : List ℕ) (z : Cleared 4 counts.variables older old) where
     counting_all : CountedInto (graph_from s counts from) (unless (leb counts.checks rows'.low) (Degree rows'.low)) older now
@@ -180,8 +167,8 @@ module _ {s : List ℕ} {counts : Counts} {from : ℕ} {old now : List ℕ} {row
               ∙ ap (λ (n : ℕ). table 4 (tally (column_in w.entries) n) counts.variables ++ drop (4 * counts.variables) older) (e ∙ sym w.many);
         })
 
-    pub counting_refused : rows'.low < counts.checks → CountedInto (graph_from s counts from) (Refused (Degree rows'.low)) older now
+    pub counting_refused : rows'.low < counts.checks → CountedInto (graph_from s counts from) (Err (Degree rows'.low)) older now
     counting_refused l = subst (λ (j : Judged). CountedInto (graph_from s counts from) j older now) (rw (lt-leb counts.checks rows'.low l)) counting_all
 
-    pub counting_admitted : counts.checks ≤ rows'.low → CountedInto (graph_from s counts from) Admitted older now
+    pub counting_admitted : counts.checks ≤ rows'.low → CountedInto (graph_from s counts from) (Ok tt) older now
     counting_admitted l = subst (λ (j : Judged). CountedInto (graph_from s counts from) j older now) (rw (le-leb counts.checks rows'.low l)) counting_all

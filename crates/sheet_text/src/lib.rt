@@ -7,10 +7,8 @@ ghost use Rattle.texts.specs.Lines.{pair};
 ghost use Rattle.code_sheets.specs.Text.Reading.{not_before, counts_fit, entry_judged, rows, sheet_lines};
 ghost use Rattle.code_sheets.specs.Text.Scanning.{within, UpTo, ScannedAs};
 
-use code_sheets::{Counts, Scanned};
-use refusals::{Judged, Refusal};
-use texts::{Line, Mark};
-
+use code_sheets::Counts;
+use refusals::Refusal;
 // Whether the counts are within limits.
 fn counts_fit(most: Counts, n: usize, m: usize) -> bool
     ensures { result ≡ counts_fit (within most) (pair n m) }
@@ -34,20 +32,34 @@ pub fn not_before(c0: usize, w0: usize, c: usize, v: usize) -> bool
 }
 
 // 3 and 4: the entry c v in line l, which may stand at the place c0 w0 or after it.
-fn judge_entry(n: usize, m: usize, l: usize, c0: usize, w0: usize, c: usize, v: usize) -> Judged
+fn judge_entry(
+    n: usize,
+    m: usize,
+    l: usize,
+    c0: usize,
+    w0: usize,
+    c: usize,
+    v: usize,
+) -> Result<(), Refusal>
     ensures { result ≡ entry_judged (pair n m) l (pair c0 w0) (pair c v) }
 {
     if !in_range(n, m, c, v) {
-        return Judged::Refused(Refusal::Range(l));
+        return Err(Refusal::Range(l));
     }
     if !not_before(c0, w0, c, v) {
-        return Judged::Refused(Refusal::Order(l));
+        return Err(Refusal::Order(l));
     }
-    Judged::Admitted
+    Ok(())
 }
 
 // The entries' lines, from a place on.
-fn scan_entries(most: Counts, text: &[u8], from: usize, n: usize, m: usize) -> Scanned
+fn scan_entries(
+    most: Counts,
+    text: &[u8],
+    from: usize,
+    n: usize,
+    m: usize,
+) -> Result<(Counts, usize), Refusal>
     requires up_to { UpTo most limits }
     requires from_in_bounds { (from ≤ length text.now) × (n ≤ most.variables) × (m ≤ most.checks) }
     ensures { ScannedAs (within most) text.now (rows (pair n m) most.entries 4 (pair 0 0) [] (drop from text.now)) result }
@@ -58,24 +70,16 @@ fn scan_entries(most: Counts, text: &[u8], from: usize, n: usize, m: usize) -> S
     let mut w0: usize = 0;
     while at < text.len() {
         if most.entries <= k {
-            return Scanned::Refused(Refusal::Count(k + 4));
+            return Err(Refusal::Count(k + 4));
         }
-        let line = lines::line_at(text, at);
-        let Line::Two {
-            first: c,
-            second: v,
-            next,
-        } = line
-        else {
-            return Scanned::Refused(Refusal::Form(k + 4));
+        let Some(line) = lines::line_at(text, at) else {
+            return Err(Refusal::Form(k + 4));
         };
-        let j = judge_entry(n, m, k + 4, c0, w0, c, v);
-        if let Judged::Refused(r) = j {
-            return Scanned::Refused(r);
-        }
+        let (c, v) = line.value;
+        judge_entry(n, m, k + 4, c0, w0, c, v)?;
         c0 = c;
         w0 = v + 1;
-        at = next;
+        at = line.next;
         k += 1;
     }
     let counts = Counts {
@@ -83,33 +87,26 @@ fn scan_entries(most: Counts, text: &[u8], from: usize, n: usize, m: usize) -> S
         checks: m,
         entries: k,
     };
-    Scanned::Lines(counts, from)
+    Ok((counts, from))
 }
 
 // All lines, where no count may be above those of `most`.
-pub fn scan(most: Counts, text: &[u8]) -> Scanned
+pub fn scan(most: Counts, text: &[u8]) -> Result<(Counts, usize), Refusal>
     requires { UpTo most limits }
     ensures { ScannedAs (within most) text.now (sheet_lines (within most) text.now) result }
 {
-    let first = lines::fixed_at(b"variables checks\n", text, 0);
-    let Mark::After(i) = first else {
-        return Scanned::Refused(Refusal::Form(1));
+    let Some(second) = lines::fixed_at(b"variables checks\n", text, 0) else {
+        return Err(Refusal::Form(1));
     };
-    let second = lines::line_at(text, i);
-    let Line::Two {
-        first: n,
-        second: m,
-        next,
-    } = second
-    else {
-        return Scanned::Refused(Refusal::Form(2));
+    let Some(line) = lines::line_at(text, second) else {
+        return Err(Refusal::Form(2));
     };
+    let (n, m) = line.value;
     if !counts_fit(most, n, m) {
-        return Scanned::Refused(Refusal::Count(2));
+        return Err(Refusal::Count(2));
     }
-    let third = lines::fixed_at(b"check variable\n", text, next);
-    let Mark::After(at) = third else {
-        return Scanned::Refused(Refusal::Form(3));
+    let Some(at) = lines::fixed_at(b"check variable\n", text, line.next) else {
+        return Err(Refusal::Form(3));
     };
     scan_entries(most, text, at, n, m)
 }

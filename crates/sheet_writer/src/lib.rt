@@ -5,14 +5,14 @@ ghost use Rattle.std.specs.Prelude.{◌≡◌, ◌+◌, ◌-◌, ◌*◌, ◌/�
 ghost use Rattle.rules.specs.Graphs.{limits, Admitted};
 ghost use Rattle.texts.specs.Numbers.{decimal};
 ghost use Rattle.texts.specs.Lines.{pair, line_text, lines_text};
-ghost use Rattle.words.specs.Roles.{wide, graph_of};
+ghost use Rattle.words.specs.Roles.{graph_lent};
 ghost use Rattle.texts.specs.Putting.{Put};
 ghost use Rattle.code_sheets.specs.Text.Texts.{row_entries, entries_of, sheet_text};
 ghost use Rattle.code_sheets.specs.Writer.Writing.{JudgesWrite, WritesInto};
 
-use code_sheets::Written;
 use putting::{put_fixed, put_number};
-use refusals::{Judged, Refusal};
+use refusals::Refusal;
+use words::Graph;
 
 // ---- the length
 
@@ -62,64 +62,50 @@ pub fn line_length(a: usize, b: usize) -> usize
 }
 
 // The length of the lines of check i.
-fn row_length(n: usize, starts: &[u8], columns: &[u8], i: usize) -> usize
-    requires { Admitted (graph_of n starts.now columns.now) × (i < length starts.now / wide - 1) }
-    ensures { (result ≡ length (lines_text (row_entries (graph_of n starts.now columns.now) i))) × (result ≤ limits.check_degree * 42) }
+fn row_length(graph: Graph<'_>, i: usize) -> usize
+    requires { Admitted (graph_lent graph) × (i < (graph_lent graph).checks) }
+    ensures { (result ≡ length (lines_text (row_entries (graph_lent graph.entry) i))) × (result ≤ limits.check_degree * 42) }
 {
-    let a = words::start(starts, i);
-    let b = words::start(starts, i + 1);
+    let a = graph.start(i);
+    let b = graph.start(i + 1);
     let mut total = 0;
-    let mut k = 0;
-    while a + k < b {
-        total += line_length(i, words::column(columns, a + k));
-        k += 1;
+    for k in 0..b - a {
+        total += line_length(i, graph.column(a + k));
     }
     total
 }
 
 // The length of the lines of all entries.
-fn rows_length(n: usize, starts: &[u8], columns: &[u8]) -> usize
-    requires { Admitted (graph_of n starts.now columns.now) }
-    ensures { (result ≡ length (lines_text (entries_of (graph_of n starts.now columns.now)))) × (result ≤ limits.checks * (limits.check_degree * 42)) }
+fn rows_length(graph: Graph<'_>) -> usize
+    requires { Admitted (graph_lent graph) }
+    ensures { (result ≡ length (lines_text (entries_of (graph_lent graph.entry)))) × (result ≤ limits.checks * (limits.check_degree * 42)) }
 {
-    let m = starts.len() / words::WIDE - 1;
     let mut total = 0;
-    let mut i = 0;
-    while i < m {
-        total += row_length(n, starts, columns, i);
-        i += 1;
+    for i in 0..graph.checks() {
+        total += row_length(graph, i);
     }
     total
 }
 
 // The length of the sheet: two fixed lines, of 17 and 15 bytes, the counts and the entries.
-fn sheet_length(n: usize, starts: &[u8], columns: &[u8]) -> usize
-    requires { Admitted (graph_of n starts.now columns.now) }
-    ensures { result ≡ length (sheet_text (graph_of n starts.now columns.now)) }
+fn sheet_length(graph: Graph<'_>) -> usize
+    requires { Admitted (graph_lent graph) }
+    ensures { result ≡ length (sheet_text (graph_lent graph.entry)) }
 {
-    let counts = line_length(n, starts.len() / words::WIDE - 1);
-    17 + counts + 15 + rows_length(n, starts, columns)
+    let counts = line_length(graph.variables, graph.checks());
+    17 + counts + 15 + rows_length(graph)
 }
 
 // Whether a graph is admitted and its sheet has room: number and place of what `write` refuses for a buffer of so many bytes; the list of
 // degrees as that leaves it.
-pub fn judge_write(
-    n: usize,
-    starts: &[u8],
-    columns: &[u8],
-    degrees: &mut [u8],
-    room: usize,
-) -> Judged
-    ensures { JudgesWrite (graph_of n starts.now columns.now) room result degrees.old degrees.new }
+pub fn judge_write(graph: Graph<'_>, degrees: &mut [u8], room: usize) -> Result<(), Refusal>
+    ensures { JudgesWrite (graph_lent graph.entry) room result degrees.old degrees.new }
 {
-    let j = graph::check(n, starts, columns, degrees);
-    if let Judged::Refused(r) = j {
-        return Judged::Refused(r);
+    graph::check(graph, degrees)?;
+    if room < sheet_length(graph) {
+        return Err(Refusal::Buffer);
     }
-    if room < sheet_length(n, starts, columns) {
-        return Judged::Refused(Refusal::Buffer);
-    }
-    Judged::Admitted
+    Ok(())
 }
 
 // ---- the text
@@ -136,63 +122,49 @@ pub fn put_line(text: &mut [u8], at: usize, a: usize, b: usize) -> usize
 }
 
 // Puts the lines of check i.
-fn put_row(text: &mut [u8], at: usize, n: usize, starts: &[u8], columns: &[u8], i: usize) -> usize
-    requires admitted { Admitted (graph_of n starts.now columns.now) × (i < length starts.now / wide - 1) }
-    requires i_in_bounds { at + length (lines_text (row_entries (graph_of n starts.now columns.now) i)) ≤ length text.old }
-    ensures { Put (lines_text (row_entries (graph_of n starts.now columns.now) i)) text.old text.new at result }
+fn put_row(text: &mut [u8], at: usize, graph: Graph<'_>, i: usize) -> usize
+    requires admitted { Admitted (graph_lent graph) × (i < (graph_lent graph).checks) }
+    requires i_in_bounds { at + length (lines_text (row_entries (graph_lent graph) i)) ≤ length text.old }
+    ensures { Put (lines_text (row_entries (graph_lent graph.entry) i)) text.old text.new at result }
 {
-    let a = words::start(starts, i);
-    let end = words::start(starts, i + 1);
+    let a = graph.start(i);
+    let end = graph.start(i + 1);
     let mut next = at;
-    let mut k = 0;
-    while a + k < end {
-        next = put_line(text, next, i, words::column(columns, a + k));
-        k += 1;
+    for k in 0..end - a {
+        next = put_line(text, next, i, graph.column(a + k));
     }
     next
 }
 
 // Puts the lines of all entries.
-fn put_rows(text: &mut [u8], at: usize, n: usize, starts: &[u8], columns: &[u8]) -> usize
-    requires admitted { Admitted (graph_of n starts.now columns.now) }
-    requires columns_in_bounds { at + length (lines_text (entries_of (graph_of n starts.now columns.now))) ≤ length text.old }
-    ensures { Put (lines_text (entries_of (graph_of n starts.now columns.now))) text.old text.new at result }
+fn put_rows(text: &mut [u8], at: usize, graph: Graph<'_>) -> usize
+    requires admitted { Admitted (graph_lent graph) }
+    requires columns_in_bounds { at + length (lines_text (entries_of (graph_lent graph))) ≤ length text.old }
+    ensures { Put (lines_text (entries_of (graph_lent graph.entry))) text.old text.new at result }
 {
-    let m = starts.len() / words::WIDE - 1;
     let mut next = at;
-    let mut i = 0;
-    while i < m {
-        next = put_row(text, next, n, starts, columns, i);
-        i += 1;
+    for i in 0..graph.checks() {
+        next = put_row(text, next, graph, i);
     }
     next
 }
 
 // Puts the sheet at the front.
-fn put_sheet(text: &mut [u8], n: usize, starts: &[u8], columns: &[u8]) -> usize
-    requires admitted { Admitted (graph_of n starts.now columns.now) }
-    requires columns_in_bounds { length (sheet_text (graph_of n starts.now columns.now)) ≤ length text.old }
-    ensures { Put (sheet_text (graph_of n starts.now columns.now)) text.old text.new 0 result }
+fn put_sheet(text: &mut [u8], graph: Graph<'_>) -> usize
+    requires admitted { Admitted (graph_lent graph) }
+    requires columns_in_bounds { length (sheet_text (graph_lent graph)) ≤ length text.old }
+    ensures { Put (sheet_text (graph_lent graph.entry)) text.old text.new 0 result }
 {
     let counts = put_fixed(text, 0, b"variables checks\n");
-    let titles = put_line(text, counts, n, starts.len() / words::WIDE - 1);
+    let titles = put_line(text, counts, graph.variables, graph.checks());
     let entries = put_fixed(text, titles, b"check variable\n");
-    put_rows(text, entries, n, starts, columns)
+    put_rows(text, entries, graph)
 }
 
 // Writes the sheet of a graph; counts the variables' degrees in the list lent for them.
-pub fn write(
-    n: usize,
-    starts: &[u8],
-    columns: &[u8],
-    degrees: &mut [u8],
-    text: &mut [u8],
-) -> Written
-    ensures { WritesInto (graph_of n starts.now columns.now) result degrees.old degrees.new text.old text.new }
+pub fn write(graph: Graph<'_>, degrees: &mut [u8], text: &mut [u8]) -> Result<usize, Refusal>
+    ensures { WritesInto (graph_lent graph.entry) result degrees.old degrees.new text.old text.new }
 {
-    let j = judge_write(n, starts, columns, degrees, text.len());
-    if let Judged::Refused(r) = j {
-        return Written::Refused(r);
-    }
-    Written::Length(put_sheet(text, n, starts, columns))
+    judge_write(graph, degrees, text.len())?;
+    Ok(put_sheet(text, graph))
 }

@@ -3,35 +3,28 @@ use mathlib.Core.Path.{◌≡◌, refl, sym, ap, subst, ◌∙◌}
 use mathlib.Core.Bool.{Bool, true, false, cond, true≢false}
 use mathlib.Core.List.{List}
 use Prim.Native.Nat.{ℕ, zero, suc, ◌+◌, ◌-◌, ◌≤◌, ◌<◌}
-use native.Mathlib.Decide.{ℕ_discrete, dec_lt}
+use native.Mathlib.Decide.{ℕ_discrete}
 use native.Mathlib.Omega.{arith}
 use native.Mathlib.Numerals.{add-one}
 use lib.Dec.{eqb}
-use lib.ListN.{length, get_or, set, length-set, get_or-eq_default}
+use lib.ListN.{length, get_or, set, replicate, length-set, length-replicate}
 use lib.Seq.{get_or-set_same, get_or-set_other}
 use Rattle.rules.specs.Graphs.{Graph, Admitted}
 use Rattle.rules.specs.Ranges.{tabulate}
-use Rattle.rules.proofs.Ranges.{length_tabulate, get_d_tabulate}
+use Rattle.rules.proofs.Filling.{tabulate_same}
 use Rattle.words.specs.Roles.{bit_of_byte}
 use Rattle.elimination.specs.Systems.{top, Reduced}
 use Rattle.elimination.specs.Rows.{rows_in, Done}
 use Rattle.elimination.specs.Eliminating.{Eliminated}
 use Rattle.elimination.proofs.Systems.{top_is, reduced_none}
 use Rattle.codewords.specs.Choosing.{Given, Fitting}
-use Rattle.solving.specs.Solving.{Bits, Zeros, Rising, upto, Means, Filling, check_rows, Replaced, Prepared, Begun, one_put, Put, Written, Solved}
-use Rattle.solving.proofs.Meaning.{filling_none, filling_given, filling_skip, filling_more, least_found, means_same, means_eliminated, checks_mean}
+use Rattle.solving.specs.Solving.{Bits, Rising, upto, Means, Filling, check_rows, Replaced, Prepared, Begun, one_put, Put, Written, Solved}
+use Rattle.solving.proofs.Meaning.{filling_given, filling_skip, filling_more, least_found, means_same, means_eliminated, checks_mean}
 
 -- ---- zeros
 
-pub zeros_made : (n : ℕ) {l : List ℕ} → l ≡ tabulate (λ k. 0) n → Zeros l
-zeros_made n {l} e k = ap (λ (a : List ℕ). get_or a k 0) e ∙ go (dec_lt k n)
-  where
-    go : Dec (k < n) → ◌≡◌ {A = ℕ} (get_or (tabulate (λ k. 0) n) k 0) 0
-    go (yes p) = get_d_tabulate (λ k. 0) n k 0 p
-    go (no p) = get_or-eq_default (tabulate (λ k. 0) n) 0 {n = k} (omega (arith, length_tabulate {A = ℕ} (λ k. 0) n))
-
-pub zeros_long : (n : ℕ) {l : List ℕ} → l ≡ tabulate (λ k. 0) n → length l ≡ n
-zeros_long n e = ap length e ∙ length_tabulate (λ k. 0) n
+pub zeros_long : (n : ℕ) {l : List ℕ} → l ≡ replicate n 0 → length l ≡ n
+zeros_long n e = ap length e ∙ length-replicate {A = ℕ} n 0
 
 -- ---- bits
 
@@ -44,13 +37,6 @@ bits_set l {i} {x} h s b k = go (ℕ_discrete k i)
     go (no e) = omega (arith, get_or-set_other l i k x 0 e, b k)
 
 -- ---- the given bits
-
-pub begun_none : {n : ℕ} {g : Given} {l : List ℕ} → Zeros l → Begun n 0 g l l
-begun_none {l = l} z = record {
-  long = refl;
-  bits = λ k. omega (arith, z k);
-  fills = λ G m R M. filling_none (λ v _. ap (λ (x : ℕ). eqb x 1) (z v));
-}
 
 pub begun_more : {n k v x : ℕ} {g : Given} {old now : List ℕ} → Rising n g → k < g.count → length old ≡ n → v ≡ g.position k → eqb x 1 ≡ g.bit k
     → x ≤ 1 → Begun n k g old now → Begun n (k + 1) g old (set now v x)
@@ -66,13 +52,7 @@ begun_more {n} {k} {v} {x} {g} {old} {now} r l f p q s b = record {
     inside : v < length now
     inside = omega (arith, r.within k l, b.long)
 
-pub begun_all : {n k e : ℕ} {g : Given} {old new : List ℕ} → k ≡ e → Begun n k g old new → Begun n e g old new
-begun_all {n} {k} {e} {g} {old} {new} p b = subst (λ (k : ℕ). Begun n k g old new) p b
-
 -- ---- the ones of the rows
-
-pub put_none : {m n : ℕ} {R : ℕ → ℕ → Bool} {l : List ℕ} → Put m n 0 R l l
-put_none = record { long = refl; bits = λ b. b; fills = λ G g M F. F }
 
 pub put_more : {m n i : ℕ} {R : ℕ → ℕ → Bool} {old now later : List ℕ} → Reduced m n m R → i < m → length old ≡ n → Put m n i R old now
     → later ≡ one_put (R i n) (top n (R i)) now → Put m n (i + 1) R old later
@@ -103,9 +83,6 @@ put_more {m} {n} {i} {R} {old} {now} {later} ok l f p e =
       bits = λ z. subst Bits (sym q) (p.bits z);
       fills = λ G g M F. filling_skip l (subst (λ (a : List ℕ). Filling (Fitting G g) g m n i R (bit_of_byte a)) (sym q) (p.fills G g M F)) b;
     }
-
-pub put_all : {m n i : ℕ} {R : ℕ → ℕ → Bool} {old new : List ℕ} → i ≡ m → Put m n i R old new → Put m n m R old new
-put_all {m} {n} {i} {R} {old} {new} e p = subst (λ (i : ℕ). Put m n i R old new) e p
 
 -- ---- the whole
 
@@ -149,13 +126,13 @@ has_top (suc t) h e = omega arith
 -- ---- what comes back
 
 pub solved_none : {G : Graph} {g : Given} {m n : ℕ} {r : Bool} {codeword old new zeros : List ℕ} → Prepared G g m n r old new → r ≡ false
-    → zeros ≡ tabulate (λ k. 0) (length new) → Solved G g n false codeword codeword old zeros
-solved_none p e z = record {
+    → zeros ≡ replicate (length new) 0 → Solved G g n false codeword codeword old zeros
+solved_none {new = new} p e z = record {
   found = λ q. absurd (true≢false (sym q));
   none = λ _. (p.none e, refl);
-  cleared = z ∙ ap (tabulate (λ k. 0)) p.long;
+  cleared = z ∙ sym (tabulate_same 0 (length new)) ∙ ap (tabulate (λ k. 0)) p.long;
 }
 
 pub solved_found : {G : Graph} {g : Given} {m n : ℕ} {r : Bool} {codeword codeword' old new zeros : List ℕ} → Prepared G g m n r old new
-    → Written G g n codeword codeword' → zeros ≡ tabulate (λ k. 0) (length new) → Solved G g n true codeword codeword' old zeros
-solved_found p w z = record { found = λ _. w; none = λ q. absurd (true≢false q); cleared = z ∙ ap (tabulate (λ k. 0)) p.long }
+    → Written G g n codeword codeword' → zeros ≡ replicate (length new) 0 → Solved G g n true codeword codeword' old zeros
+solved_found {new = new} p w z = record { found = λ _. w; none = λ q. absurd (true≢false q); cleared = z ∙ sym (tabulate_same 0 (length new)) ∙ ap (tabulate (λ k. 0)) p.long }

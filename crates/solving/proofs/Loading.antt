@@ -2,7 +2,7 @@
 use mathlib.Core.Path.{◌≡◌, refl, sym, ap, ap₂, subst, ◌∙◌}
 use mathlib.Core.Bool.{Bool, false, xor}
 use mathlib.Core.List.{List}
-use Prim.Native.Nat.{ℕ, ◌+◌, ◌-◌, ◌*◌, ◌/◌, ◌≤◌, ◌<◌}
+use Prim.Native.Nat.{ℕ, suc, ◌+◌, ◌-◌, ◌*◌, ◌/◌, ◌≤◌, ◌<◌}
 use native.Mathlib.Omega.{arith}
 use native.Mathlib.Numerals.{add-one}
 use lib.Dec.{eqb}
@@ -19,42 +19,45 @@ use Rattle.solving.proofs.Meaning.{means_same, means_replaced}
 
 -- ---- the rows of the checks
 
-pub load_none : {n j : ℕ} {l : List ℕ} (column : ℕ → ℕ) (a : ℕ) → Turned n j (λ u. xor (rows_in n l j u) (entries_row column a 0 u)) l l
-unfolding fold entries_row
-load_none {n} {j} {l} column a = turned_none (λ u _. sym (xor_false (rows_in n l j u)))
+-- row j of the list, with the entries of check j before entry e
+abbrev pub with_entries : Graph → ℕ → List ℕ → ℕ → ℕ → ℕ → Bool
+with_entries G n l j e u = xor (rows_in n l j u) (entries_row G.column (G.start j) (e - G.start j) u)
 
-pub load_more : {n j : ℕ} {old now later : List ℕ} (column : ℕ → ℕ) (a k v : ℕ) → v ≤ n → width n * j + width n ≤ length old → v ≡ column (a + k)
-    → Turned n j (λ u. xor (rows_in n old j u) (entries_row column a k u)) old now → later ≡ flipped now (width n * j) v
-    → Turned n j (λ u. xor (rows_in n old j u) (entries_row column a (k + 1) u)) old later
-unfolding fold entries_row
-load_more {n} {j} {old} {now} {later} column a k v h f p t q =
-    turned_same
-    (λ u _. xor_monoid.assoc (rows_in n old j u) (entries_row column a k u) (eqb u v)
-    ∙ ap (λ w. xor (rows_in n old j u) (xor (entries_row column a k u) (eqb u w))) p
-    ∙ ap (λ (i : ℕ). xor (rows_in n old j u) (entries_row column a i u)) (sym (add-one k)))
-    (turned_flip h f t q)
+module _ (G : Graph) (n j : ℕ) {old : List ℕ} where
+  pub load_none : {e : ℕ} → e ≡ G.start j → Turned n j (with_entries G n old j e) old old
+  unfolding fold entries_row
+  load_none {e} p =
+      let none : e - G.start j ≡ 0 = omega arith in
+      turned_none (λ u _. sym (ap (λ (t : ℕ). xor (rows_in n old j u) (entries_row G.column (G.start j) t u)) none ∙ xor_false (rows_in n old j u)))
+
+  pub load_more : {now later : List ℕ} {e v : ℕ} → G.start j ≤ e → v ≤ n → width n * j + width n ≤ length old → v ≡ G.column e
+      → Turned n j (with_entries G n old j e) old now → later ≡ flipped now (width n * j) v → Turned n j (with_entries G n old j (e + 1)) old later
+  unfolding fold entries_row
+  load_more {e = e} {v = v} l h f p t q =
+      let a : ℕ = G.start j in
+      let here : e ≡ a + (e - a) = omega arith in
+      let more : suc (e - a) ≡ e + 1 - a = omega arith in
+      turned_same
+      (λ u _. xor_monoid.assoc (rows_in n old j u) (entries_row G.column a (e - a) u) (eqb u v)
+      ∙ ap (λ w. xor (rows_in n old j u) (xor (entries_row G.column a (e - a) u) (eqb u w))) (p ∙ ap G.column here)
+      ∙ ap (λ (i : ℕ). xor (rows_in n old j u) (entries_row G.column a i u)) more)
+      (turned_flip h f t q)
+
+  pub load_all : {now : List ℕ} {e : ℕ} → e ≡ G.start (j + 1) → Turned n j (with_entries G n old j e) old now
+      → Turned n j (λ u. xor (rows_in n old j u) (check_rows G j u)) old now
+  load_all {e = e} p t =
+      let all : e ≡ G.start (suc j) = p ∙ ap G.start (add-one j) in
+      turned_same (λ u _. ap (λ (y : ℕ). xor (rows_in n old j u) (entries_row G.column (G.start j) (y - G.start j) u)) all) t
 
 zero_bits : (n : ℕ) (l : List ℕ) → Zeros l → (j u : ℕ) → rows_in n l j u ≡ false
 zero_bits n l z j u = zero_byte l (width n * j) u u (z (width n * j + u / 8)) refl
 
-pub loads_more : {n j : ℕ} {old now later : List ℕ} (G : Graph) (x y : ℕ) → Zeros old → x ≡ G.start j → y ≡ G.start (j + 1) → Done n j (check_rows G) old now
-    → Turned n j (λ u. xor (rows_in n now j u) (entries_row G.column x (y - x) u)) now later
-    → Done n (j + 1) (check_rows G) old later
-loads_more {n} {j} {old} {now} {later} G x y z p q d t =
-    done_more d t
-    (λ u m. ap (λ b. xor b (entries_row G.column x (y - x) u)) (d.above j u (omega arith) m ∙ zero_bits n old z j u)
-    ∙ false_xor (entries_row G.column x (y - x) u)
-    ∙ ap₂ (λ x y. entries_row G.column x (y - x) u) p (q ∙ ap G.start (add-one j)))
-
-pub load_all : {n j : ℕ} {old new : List ℕ} (column : ℕ → ℕ) (a : ℕ) {k t : ℕ} → k ≡ t
-    → Turned n j (λ u. xor (rows_in n old j u) (entries_row column a k u)) old new
-    → Turned n j (λ u. xor (rows_in n old j u) (entries_row column a t u)) old new
-load_all {n} {j} {old} {new} column a e t = turned_same (λ u _. ap (λ (k : ℕ). xor (rows_in n old j u) (entries_row column a k u)) e) t
+pub loads_more : {n j : ℕ} {old now later : List ℕ} (G : Graph) → Zeros old → Done n j (check_rows G) old now
+    → Turned n j (λ u. xor (rows_in n now j u) (check_rows G j u)) now later → Done n (j + 1) (check_rows G) old later
+loads_more {n} {j} {old} G z d t =
+    done_more d t (λ u m. ap (λ b. xor b (check_rows G j u)) (d.above j u (omega arith) m ∙ zero_bits n old z j u) ∙ false_xor (check_rows G j u))
 
 -- ---- given bits put for their variables
-
-pub replaced_start : {m n : ℕ} {g : Given} {l : List ℕ} → Replaced m n 0 g l l
-replaced_start = record { long = refl; means = λ G M. M }
 
 pub replaced_next : {m n k v : ℕ} {b : Bool} {g : Given} {old now later : List ℕ} → Rising n g → k < g.count → v ≡ g.position k → b ≡ g.bit k
     → Replaced m n k g old now → Done n m (replaced n v b (rows_in n now)) now later → Replaced m n (k + 1) g old later
@@ -64,6 +67,3 @@ replaced_next {m} {n} {k} {v} {b} {g} {old} {now} {later} r l p q a d = record {
       (means_same (record { within = λ i u. r.within i (omega arith); rising = λ i u. r.rising i (omega arith) }) (λ i u x y. d.below i u x y ∙ ap₂ (λ v b. replaced n v b (rows_in n now) i u) p q)
       (means_replaced r l (a.means G M)));
 }
-
-pub replaced_all : {m n k e : ℕ} {g : Given} {old new : List ℕ} → k ≡ e → Replaced m n k g old new → Replaced m n e g old new
-replaced_all {m} {n} {k} {e} {g} {old} {new} p a = subst (λ (k : ℕ). Replaced m n k g old new) p a

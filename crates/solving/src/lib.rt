@@ -1,58 +1,37 @@
 // The least codeword that holds given bits, by elimination.
 #![tactic(auto)]
 
-ghost use Rattle.std.specs.Prelude.{◌≡◌, false, ℕ, ◌-◌, ◌*◌, ◌/◌, ◌+◌, ◌<◌, ◌≤◌, length};
+ghost use Rattle.std.specs.Prelude.{◌≡◌, false, ◌*◌, ◌/◌, ◌+◌, ◌<◌, ◌≤◌, length};
 ghost use Rattle.std.specs.Bool.{xor};
-ghost use Rattle.rules.specs.Graphs.{Graph, Admitted};
+ghost use Rattle.rules.specs.Graphs.{Admitted};
+ghost use Rattle.rules.specs.Graphs as Rules;
 ghost use Rattle.rules.specs.Ranges.{tabulate};
-ghost use Rattle.words.specs.Roles.{wide, column_at, graph_of};
+ghost use Rattle.words.specs.Roles.{graph_lent};
 ghost use Rattle.elimination.specs.Systems.{top, Reduced};
 ghost use Rattle.elimination.specs.Rows.{width, widest, rows_in, Turned, Done};
 ghost use Rattle.codewords.specs.Encoding.{given_of};
-ghost use Rattle.solving.specs.Solving.{Zeros, Gives, Means, entries_row, check_rows, Replaced, Prepared, Begun, one_put, Put, Written, Solved};
+ghost use Rattle.solving.specs.Solving.{Zeros, Gives, Means, check_rows, Replaced, Prepared, Begun, one_put, Put, Written, Solved};
 
-// Sets all bytes to 0.
-fn zero(l: &mut [u8])
-    ensures { l.new ≡ tabulate (λ k. 0) (length l.old) }
-{
-    let mut i = 0;
-    while i < l.len() {
-        l[i] = 0;
-        i += 1;
-    }
-}
+use words::Graph;
 
-// Adds the entries from a on to before b to row j.
-fn load_row(columns: &[u8], a: usize, b: usize, work: &mut [u8], n: usize, j: usize)
-    requires a_le_b { (a ≤ b) × (b ≤ length columns.now / wide) × (width n * j + width n ≤ length work.old) }
-    requires by_index { (e : ℕ) → e < length columns.now / wide → column_at columns.now e < n }
-    ensures { Turned n j (λ u. xor (rows_in n work.old j u) (entries_row (column_at columns.now) a (b - a) u)) work.old work.new }
+// Adds the entries of check j to row j.
+fn load_row(graph: Graph, j: usize, work: &mut [u8])
+    requires { Admitted (graph_lent graph) × (j < (graph_lent graph).checks) × (width graph.variables * j + width graph.variables ≤ length work.old) }
+    ensures { Turned graph.entry.variables j (λ u. xor (rows_in graph.entry.variables work.old j u) (check_rows (graph_lent graph.entry) j u)) work.old work.new }
 {
-    let w = n / 8 + 1;
-    let mut k = 0;
-    while a + k < b {
-        elimination::flip(work, w * j, words::column(columns, a + k));
-        k += 1;
+    let w = graph.variables / 8 + 1;
+    for e in graph.start(j)..graph.start(j + 1) {
+        elimination::flip(work, w * j, graph.column(e));
     }
 }
 
 // Makes rows of zeros those of the checks.
-fn load(n: usize, starts: &[u8], columns: &[u8], work: &mut [u8])
-    requires { Admitted (graph_of n starts.now columns.now) × (length work.old ≡ width n * (length starts.now / wide - 1)) × Zeros work.old }
-    ensures { Done n (length starts.now / wide - 1) (check_rows (graph_of n starts.now columns.now)) work.old work.new }
+fn load(graph: Graph, work: &mut [u8])
+    requires { Admitted (graph_lent graph) × (length work.old ≡ width graph.variables * (graph_lent graph).checks) × Zeros work.old }
+    ensures { Done graph.entry.variables (graph_lent graph.entry).checks (check_rows (graph_lent graph.entry)) work.old work.new }
 {
-    let m = starts.len() / words::WIDE - 1;
-    let mut j = 0;
-    while j < m {
-        load_row(
-            columns,
-            words::start(starts, j),
-            words::start(starts, j + 1),
-            work,
-            n,
-            j,
-        );
-        j += 1;
+    for j in 0..graph.checks() {
+        load_row(graph, j, work);
     }
 }
 
@@ -61,30 +40,21 @@ fn replace_given(work: &mut [u8], n: usize, m: usize, positions: &[u8], given: &
     requires { (length work.old ≡ width n * m) × Gives n (given_of positions.now given.now) given.now }
     ensures { Replaced m n (length positions.now / 2) (given_of positions.now given.now) work.old work.new }
 {
-    let mut k = 0;
-    while k < positions.len() / 2 {
+    for k in 0..positions.len() / 2 {
         elimination::replace(work, n, m, words::position(positions, k), given[k] == 1);
-        k += 1;
     }
 }
 
 // Makes the rows of the graph and the given bits, and eliminates; false where no codeword holds the bits.
-fn prepare(
-    n: usize,
-    starts: &[u8],
-    columns: &[u8],
-    positions: &[u8],
-    given: &[u8],
-    work: &mut [u8],
-) -> bool
-    requires { Admitted (graph_of n starts.now columns.now) × (length work.old ≡ width n * (length starts.now / wide - 1)) × Gives n (given_of positions.now given.now) given.now × (width n ≤ widest) }
-    ensures { Prepared (graph_of n starts.now columns.now) (given_of positions.now given.now) (length starts.now / wide - 1) n result work.old work.new }
+fn prepare(graph: Graph, positions: &[u8], given: &[u8], work: &mut [u8]) -> bool
+    requires { Admitted (graph_lent graph) × (length work.old ≡ width graph.variables * (graph_lent graph).checks) × Gives graph.variables (given_of positions.now given.now) given.now × (width graph.variables ≤ widest) }
+    ensures { Prepared (graph_lent graph.entry) (given_of positions.now given.now) (graph_lent graph.entry).checks graph.entry.variables result work.old work.new }
 {
-    let m = starts.len() / words::WIDE - 1;
-    zero(work);
-    load(n, starts, columns, work);
-    replace_given(work, n, m, positions, given);
-    elimination::eliminate(work, n, m)
+    let m = graph.checks();
+    work.fill(0);
+    load(graph, work);
+    replace_given(work, graph.variables, m, positions, given);
+    elimination::eliminate(work, graph.variables, m)
 }
 
 // Puts the given bits into a list of zeros.
@@ -92,10 +62,8 @@ fn put_given(codeword: &mut [u8], n: usize, positions: &[u8], given: &[u8])
     requires { (length codeword.old ≡ n) × Zeros codeword.old × Gives n (given_of positions.now given.now) given.now }
     ensures { Begun n (length positions.now / 2) (given_of positions.now given.now) codeword.old codeword.new }
 {
-    let mut k = 0;
-    while k < positions.len() / 2 {
+    for k in 0..positions.len() / 2 {
         codeword[words::position(positions, k)] = given[k];
-        k += 1;
     }
 }
 
@@ -118,42 +86,51 @@ fn put_ones(codeword: &mut [u8], work: &[u8], n: usize, m: usize)
     requires { (length codeword.old ≡ n) × (length work.now ≡ width n * m) × Reduced m n m (rows_in n work.now) }
     ensures { Put m n m (rows_in n work.now) codeword.old codeword.new }
 {
-    let mut i = 0;
-    while i < m {
+    for i in 0..m {
         put_one(codeword, work, n, i);
-        i += 1;
     }
 }
 
 // Writes the codeword.
-fn fill(codeword: &mut [u8], work: &[u8], n: usize, m: usize, positions: &[u8], given: &[u8])
+fn write_codeword(
+    codeword: &mut [u8],
+    work: &[u8],
+    n: usize,
+    m: usize,
+    positions: &[u8],
+    given: &[u8],
+)
     requires { (length codeword.old ≡ n) × (length work.now ≡ width n * m) × Reduced m n m (rows_in n work.now) × Gives n (given_of positions.now given.now) given.now }
-    ensures { (G : Graph) → Means G (given_of positions.now given.now) m n (rows_in n work.now) → Written G (given_of positions.now given.now) n codeword.old codeword.new }
+    ensures { (G : Rules.Graph) → Means G (given_of positions.now given.now) m n (rows_in n work.now) → Written G (given_of positions.now given.now) n codeword.old codeword.new }
 {
-    zero(codeword);
+    codeword.fill(0);
     put_given(codeword, n, positions, given);
     put_ones(codeword, work, n, m);
 }
 
 // The least codeword that holds the given bits; false where there is none. The work bytes are 0 afterwards.
 pub fn solve(
-    n: usize,
-    starts: &[u8],
-    columns: &[u8],
+    graph: Graph,
     positions: &[u8],
     given: &[u8],
     codeword: &mut [u8],
     work: &mut [u8],
 ) -> bool
-    requires { Admitted (graph_of n starts.now columns.now) × (length work.old ≡ width n * (length starts.now / wide - 1)) × (length codeword.old ≡ n) × Gives n (given_of positions.now given.now) given.now × (width n ≤ widest) }
-    ensures { Solved (graph_of n starts.now columns.now) (given_of positions.now given.now) n result codeword.old codeword.new work.old work.new }
+    requires { Admitted (graph_lent graph) × (length work.old ≡ width graph.variables * (graph_lent graph).checks) × (length codeword.old ≡ graph.variables) × Gives graph.variables (given_of positions.now given.now) given.now × (width graph.variables ≤ widest) }
+    ensures { Solved (graph_lent graph.entry) (given_of positions.now given.now) graph.entry.variables result codeword.old codeword.new work.old work.new }
 {
-    if !prepare(n, starts, columns, positions, given, work) {
-        zero(work);
+    if !prepare(graph, positions, given, work) {
+        work.fill(0);
         return false;
     }
-    let m = starts.len() / words::WIDE - 1;
-    fill(codeword, work, n, m, positions, given);
-    zero(work);
+    write_codeword(
+        codeword,
+        work,
+        graph.variables,
+        graph.checks(),
+        positions,
+        given,
+    );
+    work.fill(0);
     true
 }

@@ -124,41 +124,44 @@ pub record Going (s : List ℕ) (at x v i : ℕ) : Type 0 where
   pub known : Known (field x) s at
   pub from : at ≤ i
   pub left : rest_of x v (drop i s) ≡ value known.number known.rest
+  pub within : i < length s
+  pub small : v < cap
+
+going_at : {s : List ℕ} {at x v i : ℕ} → x < 48 → (k : Known (field x) s at) → at ≤ i → rest_of x v (drop i s) ≡ value k.number k.rest → Going s at x v i
+going_at {s} {at} {x} {v} {i} l k f e = record {
+  low = l;
+  known = k;
+  from = f;
+  left = e;
+  within = rest_within l s i v e;
+  small = omega (arith, rest_grows x v (drop i s) e, k.small);
+}
 
 pub going_none : {s : List ℕ} {at x : ℕ} → (x < 48) × Known (field x) s at → Going s at x 0 at
-going_none {s} {at} {x} p = record { low = p.0; known = p.1; from = omega arith; left = rest_begins p.0 (drop at s) p.1.reads }
+going_none {s} {at} {x} p = going_at p.0 p.1 (omega arith) (rest_begins p.0 (drop at s) p.1.reads)
 
 module _ {s : List ℕ} {at x v i : ℕ} (g : Going s at x v i) where
-  pub going_within : i < length s
-  going_within = rest_within g.low s i v g.left
-
-  pub going_small : v < cap
-  going_small = omega (arith, rest_grows x v (drop i s) g.left, g.known.small)
-
   module _ (n : get_or s i 0 ≡ x → ⊥) where
-    pub going_digit : (48 ≤ get_or s i 0) × (get_or s i 0 ≤ 57)
-    going_digit = digit_told (get_or s i 0) (rest_digit g.low s i v g.left n)
+    pub going_digit : (v < cap) × (48 ≤ get_or s i 0) × (get_or s i 0 ≤ 57)
+    going_digit = let d = digit_told (get_or s i 0) (rest_digit g.low s i v g.left n) in (g.small, d.0, d.1)
 
     going_more : Going s at x (v * 10 + (get_or s i 0 - 48)) (i + 1)
-    going_more = record { low = g.low; known = g.known; from = omega (arith, g.from); left = rest_more g.low s i v g.left n }
+    going_more = going_at g.low g.known (omega (arith, g.from)) (rest_more g.low s i v g.left n)
 
     -- the digit's number and the place after it, as the code has them
     pub going_on : {w j : ℕ} → w ≡ v * 10 + (get_or s i 0 - 48) → j ≡ i + 1 → Going s at x w j
     going_on {w} {j} p q = subst (λ k. Going s at x k j) (sym p) (subst (λ k. Going s at x (v * 10 + (get_or s i 0 - 48)) k) (sym q) going_more)
 
-  pub going_ends : get_or s i 0 ≡ x → NumberRead (field x (drop at s)) s at v (i + 1)
-  going_ends e =
+  pub going_ends : {j : ℕ} → get_or s i 0 ≡ x → j ≡ i + 1 → NumberRead (field x (drop at s)) s at v j
+  going_ends {j} e q =
       let z = rest_ends g.low s i v g.left e in
       record {
         number = v;
-        reads = g.known.reads ∙ sym (ap₂ value z.0 z.1);
-        capped = omega (arith, going_small);
+        reads = g.known.reads ∙ sym (ap₂ value z.0 z.1) ∙ ap (λ k. value v (drop k s)) (sym q);
+        capped = omega (arith, g.small);
         on = omega (arith, g.from);
-        within = omega (arith, going_within);
+        within = omega (arith, g.within);
       }
-
-  pub ends_at : {j : ℕ} → get_or s i 0 ≡ x → j ≡ i + 1 → NumberRead (field x (drop at s)) s at v j
-  ends_at {j} e q = subst (NumberRead (field x (drop at s)) s at v) (sym q) (going_ends e)
 
 -- ---- the two fields of a line
 
@@ -186,23 +189,24 @@ module _ {s : List ℕ} {at : ℕ} (k : KnownLine s at) where
       let f = fields_are (drop at s) k.reads in
       record { number = k.pair.first; rest = f.between; reads = f.first; small = k.first }
 
-  module _ {a i : ℕ} (r : NumberRead (field space (drop at s)) s at a i) where
-    pub known_second : Known (field lf) s i
-    known_second =
-        let f = fields_are (drop at s) k.reads in
-        record {
-          number = k.pair.second;
-          rest = k.rest;
-          reads = ap (field lf) (value_is (sym r.reads ∙ f.first)).1 ∙ f.second;
-          small = k.second;
-        }
+  pub known_second : {a i : ℕ} → NumberRead (field space (drop at s)) s at a i → Known (field lf) s i
+  known_second r =
+      let f = fields_are (drop at s) k.reads in
+      record {
+        number = k.pair.second;
+        rest = k.rest;
+        reads = ap (field lf) (value_is (sym r.reads ∙ f.first)).1 ∙ f.second;
+        small = k.second;
+      }
 
-    pub line_read : {b j : ℕ} → NumberRead (field lf (drop i s)) s i b j → LineRead (line (drop at s)) s at a b j
-    line_read q = record {
-      pair = pair r.number q.number;
-      reads = line_both (drop at s) r.reads q.reads;
-      first = r.capped;
-      second = q.capped;
-      on = omega (arith, r.on, q.on);
-      within = q.within;
-    }
+-- the two numbers, read
+pub line_read : {s : List ℕ} {at a i b j : ℕ} → NumberRead (field space (drop at s)) s at a i → NumberRead (field lf (drop i s)) s i b j
+    → LineRead (line (drop at s)) s at a b j
+line_read {s} {at} r q = record {
+  pair = pair r.number q.number;
+  reads = line_both (drop at s) r.reads q.reads;
+  first = r.capped;
+  second = q.capped;
+  on = omega (arith, r.on, q.on);
+  within = q.within;
+}

@@ -1,8 +1,8 @@
 -- What a layout must have for texts and entries to determine each other.
+use Rattle.std.specs.Prelude.{Ok}
 use mathlib.Core.Path.{◌≡◌}
 use mathlib.Core.List.{List, [], ◌++◌}
 use Prim.Native.Nat.{ℕ}
-use Rattle.refusals.specs.declared.Judged.TheVariants as Judgement
 use Rattle.texts.specs.Numbers.{value}
 use Rattle.texts.specs.Layouts.{EntryLines, Layout}
 
@@ -20,5 +20,5 @@ module _ {C A L : Type 0} where
 
   -- an entry that is not refused is one that fits, in whatever line
   pub record Judging (E : EntryLines C A L) (Fits : C → L → A → Type 0) : Type 0 where
-    pub fits_judged : (c : C) (low : L) (p : A) (l : ℕ) → Fits c low p → E.entry_judged c l low p ≡ Judgement.Admitted
-    pub judged_fits : (c : C) (low : L) (p : A) (l : ℕ) → E.entry_judged c l low p ≡ Judgement.Admitted → Fits c low p
+    pub fits_judged : (c : C) (low : L) (p : A) (l : ℕ) → Fits c low p → E.entry_judged c l low p ≡ Ok tt
+    pub judged_fits : (c : C) (low : L) (p : A) (l : ℕ) → E.entry_judged c l low p ≡ Ok tt → Fits c low p

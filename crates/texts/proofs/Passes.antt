@@ -1,4 +1,5 @@
 -- The first pass, one line on: the loop over the entries' lines, and the lines above them.
+use Rattle.std.specs.Prelude.{Ok, Err}
 use mathlib.Core.Path.{◌≡◌, refl, ap, ◌∙◌}
 use mathlib.Core.List.{List, [], ◌∷◌, ◌++◌}
 use Prim.Native.Nat.{ℕ, zero, suc, ◌+◌, ◌≤◌, ◌<◌}
@@ -7,7 +8,6 @@ use native.Mathlib.Omega.{arith}
 use lib.ListN.{length, drop, length-append, drop_of_length-le}
 use Rattle.refusals.specs.declared.Refusal.{Refusal}
 use Rattle.refusals.specs.declared.Refusal.TheVariants.{Form, Count}
-use Rattle.refusals.specs.declared.Judged.TheVariants as Judgement
 use Rattle.texts.specs.Numbers.{other, value}
 use Rattle.texts.specs.Lines.{fixed}
 use Rattle.texts.proofs.Places.{here}
@@ -54,12 +54,12 @@ module _ {C A L : Type 0} (E : EntryLines C A L) (c : C) (l : ℕ) (low : L) (do
     no_line (suc j) u e = full s at _ _ h ∙ rw e
 
     module _ (p : A) (t : List ℕ) (e : E.entry (drop at s) ≡ value p t) where
-      bad_entry : (j : ℕ) (r : Refusal) → 0 < j → E.entry_judged c l low p ≡ Judgement.Refused r → rows E c j l low done (drop at s) ≡ refused r
+      bad_entry : (j : ℕ) (r : Refusal) → 0 < j → E.entry_judged c l low p ≡ Err r → rows E c j l low done (drop at s) ≡ refused r
       unfolding rows
       bad_entry zero r u q = absurd (not-suc-le-zero u)
       bad_entry (suc j) r u q = full s at _ _ h ∙ rw (e, q)
 
-      good_entry : (j : ℕ) → E.entry_judged c l low p ≡ Judgement.Admitted
+      good_entry : (j : ℕ) → E.entry_judged c l low p ≡ Ok tt
           → rows E c (suc j) l low done (drop at s) ≡ rows E c j (suc l) (E.after p) (done ++ (p ∷ [])) t
       unfolding rows
       good_entry j q = full s at _ _ h ∙ rw (e, q)
@@ -80,10 +80,10 @@ module _ {C A L : Type 0} {E : EntryLines C A L} {most : ℕ} {c : C} {s : List 
       scanning_other e = q.same ∙ no_line E c (k + 4) low q.done s at h q.left (omega (arith, q.total)) e
 
       module _ (p : A) (next : ℕ) (e : E.entry (drop at s) ≡ value p (drop next s)) where
-        pub scanning_refused : {r : Refusal} → E.entry_judged c (k + 4) low p ≡ Judgement.Refused r → answer ≡ refused r
+        pub scanning_refused : {r : Refusal} → E.entry_judged c (k + 4) low p ≡ Err r → answer ≡ refused r
         scanning_refused {r} j = q.same ∙ bad_entry E c (k + 4) low q.done s at h p (drop next s) e q.left r (omega (arith, q.total)) j
 
-        pub scanning_more : next ≤ length s → E.entry_judged c (k + 4) low p ≡ Judgement.Admitted → Scanning E most c s from next (k + 1) (E.after p)
+        pub scanning_more : next ≤ length s → E.entry_judged c (k + 4) low p ≡ Ok tt → Scanning E most c s from next (k + 1) (E.after p)
         scanning_more w j = go q.left q.total q.same
           where
             go : (left : ℕ) → left + k ≡ most → answer ≡ rows E c left (k + 4) low q.done (drop at s) → Scanning E most c s from next (k + 1) (E.after p)
@@ -112,11 +112,11 @@ module _ {C A L : Type 0} (Y : Layout C A L) (s : List ℕ) where
     no_counts e = rw (e₁, e)
 
     module _ {c : C} {t₂ : List ℕ} (e₂ : Y.counts t₁ ≡ value c t₂) where
-      pub bad_counts : {r : Refusal} → Y.counts_judged c ≡ Judgement.Refused r → sheet_lines Y s ≡ refused r
+      pub bad_counts : {r : Refusal} → Y.counts_judged c ≡ Err r → sheet_lines Y s ≡ refused r
       unfolding sheet_lines
       bad_counts {r} e = rw (e₁, e₂, e)
 
-      module _ (fit : Y.counts_judged c ≡ Judgement.Admitted) where
+      module _ (fit : Y.counts_judged c ≡ Ok tt) where
         pub no_titles : fixed Y.titles t₂ ≡ other → sheet_lines Y s ≡ refused (Form 3)
         unfolding sheet_lines
         no_titles e = rw (e₁, e₂, fit, e)

@@ -1,4 +1,5 @@
 -- The sheet of counts within limits and entries in order is read as these, and only such a sheet is read.
+use Rattle.std.specs.Prelude.{Ok, Err}
 use mathlib.Core.Path.{◌≡◌, refl, sym, ap, ◌∙◌, subst}
 use mathlib.Core.List.{List, [], ◌∷◌, ◌++◌, append_assoc, append-nil}
 use Prim.Native.Nat.{ℕ, zero, suc, ◌≤◌}
@@ -7,8 +8,7 @@ use native.Mathlib.Omega.{arith}
 use lib.ListN.{length}
 use Rattle.refusals.specs.declared.Refusal.{Refusal}
 use Rattle.refusals.specs.declared.Refusal.TheVariants.{Count}
-use Rattle.refusals.specs.declared.Judged.{Judged}
-use Rattle.refusals.specs.declared.Judged.TheVariants as Judgement
+use Rattle.refusals.specs.Refusals.{Judged}
 use Rattle.texts.specs.Numbers.{Front, other, value}
 use Rattle.texts.specs.Lines.{fixed}
 use Rattle.texts.proofs.Lines.{fixed_reads, fixed_text}
@@ -28,9 +28,9 @@ module _ {C A : Type 0} where
   formed_told l other k d qs e = absurd (refused_not e)
   formed_told l (value a t) k d qs e = (a, t, refl, e)
 
-  below_told : (j : Judged) (x : Lines C A) (d : C) (qs : List A) → below j x ≡ lines d qs → (j ≡ Judgement.Admitted) × (x ≡ lines d qs)
-  below_told Judgement.Admitted x d qs e = (refl, e)
-  below_told (Judgement.Refused r) x d qs e = absurd (refused_not e)
+  below_told : (j : Judged) (x : Lines C A) (d : C) (qs : List A) → below j x ≡ lines d qs → (j ≡ Ok tt) × (x ≡ lines d qs)
+  below_told (Ok _) x d qs e = (refl, e)
+  below_told (Err r) x d qs e = absurd (refused_not e)
 
 module _ {C A L : Type 0} (E : EntryLines C A L) (T : ReadableEntries E) (Fits : C → L → A → Type 0) (J : Judging E Fits) where
   -- a line is not the end

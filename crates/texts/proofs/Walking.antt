@@ -1,4 +1,5 @@
 -- Entries, judged one after the other as the lines of their text would be.
+use Rattle.std.specs.Prelude.{Ok, Err}
 use mathlib.Core.Path.{◌≡◌, refl, ap, ◌∙◌}
 use mathlib.Core.List.{List, [], ◌∷◌, ◌++◌}
 use Prim.Native.Nat.{ℕ, zero, suc, ◌+◌, ◌≤◌, ◌<◌}
@@ -7,7 +8,6 @@ use native.Mathlib.Omega.{arith}
 use lib.ListN.{length, drop, drop_of_length-le}
 use Rattle.refusals.specs.declared.Refusal.{Refusal}
 use Rattle.refusals.specs.declared.Refusal.TheVariants.{Count}
-use Rattle.refusals.specs.declared.Judged.TheVariants as Judgement
 use Rattle.texts.specs.Layouts.{EntryLines}
 use Rattle.texts.specs.Reading.{Lines, refused, lines, walked}
 
@@ -37,12 +37,12 @@ module _ {C A L : Type 0} (E : EntryLines C A L) (c : C) (l : ℕ) (low : L) (do
     too_many zero e = refl
     too_many (suc j) e = absurd (omega arith)
 
-    bad_entry : (j : ℕ) (r : Refusal) → 0 < j → E.entry_judged c l low p ≡ Judgement.Refused r → walked E c j l low done (p ∷ ps) ≡ refused r
+    bad_entry : (j : ℕ) (r : Refusal) → 0 < j → E.entry_judged c l low p ≡ Err r → walked E c j l low done (p ∷ ps) ≡ refused r
     unfolding walked
     bad_entry zero r u q = absurd (not-suc-le-zero u)
     bad_entry (suc j) r u q = rw q
 
-    good_entry : (j : ℕ) → E.entry_judged c l low p ≡ Judgement.Admitted
+    good_entry : (j : ℕ) → E.entry_judged c l low p ≡ Ok tt
         → walked E c (suc j) l low done (p ∷ ps) ≡ walked E c j (suc l) (E.after p) (done ++ (p ∷ [])) ps
     unfolding walked
     good_entry j q = rw q
@@ -63,10 +63,10 @@ module _ {C A L : Type 0} {E : EntryLines C A L} {most : ℕ} {c : C} {ps : List
     walking_many u = here ∙ too_many E c (k + 4) low q.done p (drop (k + 1) ps) q.left (omega (arith, q.total))
 
     module _ (u : k < most) where
-      pub walking_refused : {r : Refusal} → E.entry_judged c (k + 4) low p ≡ Judgement.Refused r → answer ≡ refused r
+      pub walking_refused : {r : Refusal} → E.entry_judged c (k + 4) low p ≡ Err r → answer ≡ refused r
       walking_refused {r} j = here ∙ bad_entry E c (k + 4) low q.done p (drop (k + 1) ps) q.left r (omega (arith, q.total)) j
 
-      pub walking_more : E.entry_judged c (k + 4) low p ≡ Judgement.Admitted → Walking E most c ps (k + 1) (E.after p)
+      pub walking_more : E.entry_judged c (k + 4) low p ≡ Ok tt → Walking E most c ps (k + 1) (E.after p)
       walking_more j = go q.left q.total here
         where
           go : (left : ℕ) → left + k ≡ most → answer ≡ walked E c left (k + 4) low q.done (p ∷ drop (k + 1) ps) → Walking E most c ps (k + 1) (E.after p)

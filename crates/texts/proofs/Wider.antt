@@ -1,11 +1,11 @@
 -- Wider limits make nothing else of lines that are not refused with 2.
+use Rattle.std.specs.Prelude.{Ok, Err}
 use mathlib.Core.Path.{◌≡◌, refl, ap, ◌∙◌}
 use mathlib.Core.List.{List, [], ◌∷◌, ◌++◌}
 use Prim.Native.Nat.{ℕ, zero, suc, ◌≤◌}
 use native.Mathlib.Omega.{arith}
 use Rattle.refusals.specs.declared.Refusal.TheVariants.{Count}
-use Rattle.refusals.specs.declared.Judged.{Judged}
-use Rattle.refusals.specs.declared.Judged.TheVariants.{Admitted, Refused}
+use Rattle.refusals.specs.Refusals.{Judged}
 use Rattle.texts.specs.Numbers.{Front, other, value}
 use Rattle.texts.specs.Lines.{fixed}
 use Rattle.texts.specs.Layouts.{EntryLines, Layout}
@@ -24,8 +24,8 @@ module _ {C A : Type 0} where
   formed_alike l (value a r) x y e h = e a r h
 
   below_alike : (j : Judged) (x y : Lines C A) → (Counted y → x ≡ y) → Counted (below j y) → below j x ≡ below j y
-  below_alike Admitted x y e h = e h
-  below_alike (Refused r) x y e h = refl
+  below_alike (Ok _) x y e h = e h
+  below_alike (Err r) x y e h = refl
 
 -- ---- the entries
 
@@ -48,7 +48,7 @@ module _ {C A L : Type 0} (E : EntryLines C A L) (c : C) where
 
 -- i is j, unless j refuses with 2
 abbrev pub Looser : Judged → Judged → Type 0
-Looser j i = ((l : ℕ) → j ≡ Refused (Count l) → ⊥) → i ≡ j
+Looser j i = ((l : ℕ) → j ≡ Err (Count l) → ⊥) → i ≡ j
 
 counts_alike : {C A : Type 0} (j i : Judged) → Looser j i → (x y : Lines C A) → (Counted y → x ≡ y) → Counted (below j y) → below i x ≡ below j y
 counts_alike j i w x y e h = ap (λ (a : Judged). below a x) (w (λ l q. h l (ap (λ (a : Judged). below a y) q))) ∙ below_alike j x y e h

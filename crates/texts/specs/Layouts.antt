@@ -1,6 +1,6 @@
 -- Layouts of sheets: two fixed lines with the counts between them, then a line per entry.
 use Rattle.std.specs.Prelude.{List, [], ◌∷◌, ◌++◌, ℕ}
-use Rattle.refusals.specs.declared.Judged.{Judged}
+use Rattle.refusals.specs.Refusals.{Judged}
 use Rattle.texts.specs.Numbers.{Front}
 
 -- The lines of entries, under counts of type C: entries of type A, judged by the place, of type L, where one may stand at the lowest.

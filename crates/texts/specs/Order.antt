@@ -1,6 +1,5 @@
 -- Entries in order.
-use Rattle.std.specs.Prelude.{◌≡◌, List, [], ◌∷◌, ◌≤◌, length}
-use Rattle.refusals.specs.declared.Judged.TheVariants as Judgement
+use Rattle.std.specs.Prelude.{◌≡◌, List, [], ◌∷◌, ◌≤◌, length, Ok}
 use Rattle.texts.specs.Layouts.{EntryLines, Layout}
 
 module _ {C A L : Type 0} where
@@ -11,6 +10,6 @@ module _ {C A L : Type 0} where
 
   -- Counts and entries that a sheet may have.
   pub record Lined (Y : Layout C A L) (Fits : C → L → A → Type 0) (c : C) (ps : List A) : Type 0 where
-    pub counts : Y.counts_judged c ≡ Judgement.Admitted
+    pub counts : Y.counts_judged c ≡ Ok tt
     pub rising : Rising Y.entries Fits c Y.entries.low ps
     pub few : length ps ≤ Y.room c

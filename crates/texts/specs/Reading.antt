@@ -1,10 +1,9 @@
 -- Reading a sheet of any layout: 'top line first, place the line counted from 1'.
 -- The answer is a function of the text that is left, so that no place of the text stands in it.
-use Rattle.std.specs.Prelude.{List, [], ◌∷◌, ◌++◌, ℕ, zero, suc}
+use Rattle.std.specs.Prelude.{List, [], ◌∷◌, ◌++◌, ℕ, zero, suc, Ok, Err}
 use Rattle.refusals.specs.declared.Refusal.{Refusal}
 use Rattle.refusals.specs.declared.Refusal.TheVariants.{Form, Count}
-use Rattle.refusals.specs.declared.Judged.{Judged}
-use Rattle.refusals.specs.declared.Judged.TheVariants as Judgement
+use Rattle.refusals.specs.Refusals.{Judged}
 use Rattle.texts.specs.Numbers.{Front, other, value}
 use Rattle.texts.specs.Lines.{fixed}
 use Rattle.texts.specs.Layouts.{EntryLines, Layout}
@@ -21,8 +20,8 @@ formed l (value a t) k = k a t
 
 -- What comes of the lines below, where a line's numbers are not refused.
 abbrev pub below : {C A : Type 0} → Judged → Lines C A → Lines C A
-below Judgement.Admitted x = x
-below (Judgement.Refused r) x = refused r
+below (Ok _) x = x
+below (Err r) x = refused r
 
 -- The first where nothing is left of the text, else the second.
 abbrev pub at_end : {C A : Type 0} → List ℕ → Lines C A → Lines C A → Lines C A

@@ -1,10 +1,9 @@
 -- Lines of three numbers: a number, and a line of two.
-use Rattle.std.specs.Prelude.{◌≡◌, List, ◌∷◌, ◌++◌, ℕ, ◌≤◌, ◌<◌, min, length, drop}
+use Rattle.std.specs.Prelude.{◌≡◌, List, ◌∷◌, ◌++◌, Option, Some, None, ℕ, ◌≤◌, ◌<◌, min, length, drop}
 use Rattle.texts.specs.Numbers.{decimal, Front, other, value}
 use Rattle.texts.specs.Lines.{space, pair, line_text, and_then, field, line}
 use Rattle.texts.specs.Places.{cap}
-use Rattle.texts.specs.declared.Three.{Three}
-use Rattle.texts.specs.declared.Three.TheVariants as Threes
+use Rattle.texts.specs.declared.Parsed.{Parsed}
 
 pub record Triple : Type 0 where
   pub first : ℕ
@@ -33,9 +32,9 @@ pub record TripleRead (x : Front Triple) (s : List ℕ) (at a b d next : ℕ) : 
   pub on : at < next
   pub within : next ≤ length s
 
-abbrev pub TripleAt : List ℕ → ℕ → Three → Type 0
-TripleAt s at Threes.Other = triple_line (drop at s) ≡ other
-TripleAt s at (Threes.Numbers a b d next) = TripleRead (triple_line (drop at s)) s at a b d next
+abbrev pub TripleAt : List ℕ → ℕ → Option (Parsed (ℕ × ℕ × ℕ)) → Type 0
+TripleAt s at None = triple_line (drop at s) ≡ other
+TripleAt s at (Some p) = TripleRead (triple_line (drop at s)) s at p.value.0 p.value.1 p.value.2 p.next
 
 -- Such a line is known to stand at place `at`, with numbers that are not above every limit.
 pub record KnownTriple (s : List ℕ) (at : ℕ) : Type 0 where

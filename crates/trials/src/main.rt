@@ -3,7 +3,6 @@
 #![tactic(auto)]
 
 use std::io::Write;
-use texts::Line;
 
 fn trial<W: Write>(writer: &mut W, sheet: &[u8], run: &[u8]) {
     let mut out = [0u8; printing::LONGEST];
@@ -15,15 +14,11 @@ fn trial<W: Write>(writer: &mut W, sheet: &[u8], run: &[u8]) {
 fn trials<W: Write>(writer: &mut W, text: &[u8]) {
     let mut at = 0;
     while at < text.len() {
-        let line = lines::line_at(text, at);
-        let Line::Two {
-            first: sheet,
-            second: run,
-            next,
-        } = line
-        else {
+        let Some(line) = lines::line_at(text, at) else {
             return;
         };
+        let (sheet, run) = line.value;
+        let next = line.next;
         let middle = next + sheet;
         let end = middle + run;
         if text.len() < end {

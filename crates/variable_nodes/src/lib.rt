@@ -9,39 +9,27 @@ ghost use Rattle.words.specs.Roles.{wide, column_at, sum_at};
 ghost use Rattle.nodes.specs.Lists.{Parts, place_of, sent_by};
 ghost use Rattle.nodes.specs.Magnitudes.{offsets};
 
-// a - b, and 0 where b is the larger.
-fn less(a: u8, b: u8) -> u8
-    ensures { result ≡ a - b }
-{
-    if a < b { 0 } else { a - b }
-}
-
 // The outgoing magnitude of F, by Nq and the offsets φs, φa and φ0.
+#[tactic(auto, unfolding(rules::specs::Nodes::outgoing_magnitude))]
 pub fn outgoing_magnitude(most: u8, phi_s: u8, phi_a: u8, phi_0: u8, f: usize) -> u8
     ensures { result ≡ outgoing_magnitude most (offsets phi_s phi_a phi_0) f }
 {
     let top = most as usize;
     if f == top {
-        less(most, phi_s)
+        most.saturating_sub(phi_s)
     } else if top < f {
         most
     } else if 2 <= f {
-        less(f as u8, phi_a)
+        (f as u8).saturating_sub(phi_a)
     } else if f == 1 {
-        less(1, phi_0)
+        1u8.saturating_sub(phi_0)
     } else {
         0
     }
 }
 
-// (n - 1) / 2, and 0 for 0.
-fn half(n: usize) -> usize
-    ensures { result ≡ (n - 1) / 2 }
-{
-    if n == 0 { 0 } else { (n - 1) / 2 }
-}
-
 // The message of the outgoing sum k - 17.
+#[tactic(auto, using(nodes::proofs::Magnitudes::message_below, nodes::proofs::Magnitudes::message_above, rules::proofs::Bounds::magnitude_within))]
 fn outgoing_message(most: u8, phi_s: u8, phi_a: u8, phi_0: u8, k: usize) -> u8
     requires { most < 128 }
     ensures { result ≡ byte (outgoing most (offsets phi_s phi_a phi_0) (pos k -ℤ pos 17)) }
@@ -49,7 +37,7 @@ fn outgoing_message(most: u8, phi_s: u8, phi_a: u8, phi_0: u8, k: usize) -> u8
     if k < 17 {
         outgoing_magnitude(most, phi_s, phi_a, phi_0, (16 - k) / 2) + 128
     } else {
-        outgoing_magnitude(most, phi_s, phi_a, phi_0, half(k - 17))
+        outgoing_magnitude(most, phi_s, phi_a, phi_0, (k - 17).saturating_sub(1) / 2)
     }
 }
 
@@ -58,10 +46,8 @@ pub fn put_messages(messages: &mut [u8], most: u8, phi_s: u8, phi_a: u8, phi_0: 
     requires { (most < 128) × (length messages.old ≡ 35) }
     ensures { messages.new ≡ tabulate (λ k. byte (outgoing most (offsets phi_s phi_a phi_0) (pos k -ℤ pos 17))) 35 }
 {
-    let mut k: usize = 0;
-    while k < 35 {
+    for k in 0..35 {
         messages[k] = outgoing_message(most, phi_s, phi_a, phi_0, k);
-        k += 1;
     }
 }
 
@@ -70,13 +56,7 @@ fn place(u: i32) -> usize
     requires { nat_abs u < 2 ^ 31 }
     ensures { result ≡ place_of u }
 {
-    if u < -17 {
-        0
-    } else if 17 < u {
-        34
-    } else {
-        (u + 17) as usize
-    }
+    (u.clamp(-17, 17) + 17) as usize
 }
 
 // What is sent at entry e: the message of the variable's sum less the part of the message that came in, by a list of parts for all bytes and a

@@ -6,6 +6,7 @@ use Rattle.std.specs.Int.{w32}
 use Rattle.std.proofs.Common.{to_z, of_z}
 use Rattle.rules.specs.Graphs.{Graph}
 use Rattle.words.specs.Words.{word, table}
+use Rattle.words.specs.declared.Graph as Lists
 
 -- 'Starts and columns becoming 32-bit' (document 02, item 9): so many bytes is a row start or a column.
 abbrev pub wide : ℕ
@@ -35,6 +36,10 @@ graph_of n starts columns = record {
   start = start_at starts;
   column = column_at columns;
 }
+
+-- The graph of the lists that are lent.
+abbrev pub graph_lent : Lists.Graph → Graph
+graph_lent g = graph_of g.variables g.starts.now g.columns.now
 
 -- The bit of variable v, of a list of bits in bytes: 1 is true.
 abbrev pub bit_of_byte : List ℕ → ℕ → Bool

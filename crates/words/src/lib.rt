@@ -7,31 +7,17 @@ ghost use Rattle.std.specs.Float.Ieee.{of_bits};
 ghost use Rattle.std.specs.Int.{w32};
 ghost use Rattle.std.proofs.Common.{to_z, of_z};
 ghost use Rattle.words.specs.Words.{word, stored};
-ghost use Rattle.words.specs.Roles.{wide, start_at, column_at, degree_at, position_at, sum_at, pattern_at, value_at};
+ghost use Rattle.words.specs.Roles.{wide, graph_lent, start_at, column_at, degree_at, position_at, sum_at, pattern_at, value_at};
 
 // How many bytes a row start or a column is: `wide` of specs/Roles.
 pub const WIDE: usize = 4;
-
-// The number of two bytes.
-fn join16(a: u8, b: u8) -> u16
-    ensures { result ≡ a + 256 * b }
-{
-    a as u16 + 256 * (b as u16)
-}
-
-// The number of four bytes.
-fn join32(a: u8, b: u8, c: u8, d: u8) -> u32
-    ensures { result ≡ a + 256 * (b + 256 * (c + 256 * d)) }
-{
-    a as u32 + 256 * (b as u32 + 256 * (c as u32 + 256 * (d as u32)))
-}
 
 // The number in the four bytes from byte k on.
 pub fn word32(b: &[u8], k: usize) -> u32
     requires { k + 4 ≤ length b.now }
     ensures { result ≡ word 4 b.now k }
 {
-    join32(b[k], b[k + 1], b[k + 2], b[k + 3])
+    u32::from_le_bytes([b[k], b[k + 1], b[k + 2], b[k + 3]])
 }
 
 // Puts x into the four bytes from byte k on.
@@ -39,24 +25,7 @@ pub fn store32(b: &mut [u8], k: usize, x: u32)
     requires { k + 4 ≤ length b.old }
     ensures { b.new ≡ stored 4 b.old k x }
 {
-    b[k] = (x % 256) as u8;
-    b[k + 1] = (x / 256 % 256) as u8;
-    b[k + 2] = (x / 256 / 256 % 256) as u8;
-    b[k + 3] = (x / 256 / 256 / 256 % 256) as u8;
-}
-
-// The i32 of a bit pattern.
-pub fn signed_of(bits: u32) -> i32
-    ensures { result ≡ to_z w32 bits }
-{
-    (((bits as u64 + 0x8000_0000) % 0x1_0000_0000) as i64 - 0x8000_0000) as i32
-}
-
-// The bit pattern of an i32.
-pub fn bits_of(x: i32) -> u32
-    ensures { result ≡ of_z w32 x }
-{
-    ((x as i64 + 0x1_0000_0000) as u64 % 0x1_0000_0000) as u32
+    b[k..k + 4].copy_from_slice(&x.to_le_bytes());
 }
 
 // The f32 of a bit pattern. Every NaN pattern gives the NaN.
@@ -102,6 +71,46 @@ pub fn put_column(columns: &mut [u8], e: usize, x: usize)
     store32(columns, WIDE * e, x as u32);
 }
 
+// A graph as it is lent: the number of its variables, its row starts and its columns.
+#[derive(Clone, Copy)]
+pub struct Graph<'a> {
+    pub variables: usize,
+    pub starts: &'a [u8],
+    pub columns: &'a [u8],
+}
+
+impl Graph<'_> {
+    // How many checks the starts make: no starts make none.
+    pub fn checks(self) -> usize
+        ensures { result ≡ (graph_lent self.entry).checks }
+    {
+        (self.starts.len() / WIDE).saturating_sub(1)
+    }
+
+    // How many entries there are.
+    pub fn entries(self) -> usize
+        ensures { result ≡ (graph_lent self.entry).entries }
+    {
+        self.columns.len() / WIDE
+    }
+
+    // The row start i.
+    pub fn start(self, i: usize) -> usize
+        requires { i < length self.starts.now / wide }
+        ensures { (result ≡ (graph_lent self.entry).start i) × (result < 256 ^ wide) }
+    {
+        start(self.starts, i)
+    }
+
+    // The column of entry e.
+    pub fn column(self, e: usize) -> usize
+        requires { e < length self.columns.now / wide }
+        ensures { (result ≡ (graph_lent self.entry).column e) × (result < 256 ^ wide) }
+    {
+        column(self.columns, e)
+    }
+}
+
 // The degree of variable v, of a list of degrees.
 pub fn degree(degrees: &[u8], v: usize) -> usize
     requires { v < length degrees.now / 4 }
@@ -123,7 +132,7 @@ pub fn position(positions: &[u8], k: usize) -> usize
     requires { k < length positions.now / 2 }
     ensures { result ≡ position_at positions.now k }
 {
-    join16(positions[2 * k], positions[2 * k + 1]) as usize
+    u16::from_le_bytes([positions[2 * k], positions[2 * k + 1]]) as usize
 }
 
 // The sum of variable v.
@@ -131,7 +140,7 @@ pub fn sum(sums: &[u8], v: usize) -> i32
     requires { v < length sums.now / 4 }
     ensures { result ≡ sum_at sums.now v }
 {
-    signed_of(word32(sums, 4 * v))
+    word32(sums, 4 * v).cast_signed()
 }
 
 // Makes x the sum of variable v.
@@ -139,7 +148,7 @@ pub fn put_sum(sums: &mut [u8], v: usize, x: i32)
     requires { v < length sums.old / 4 }
     ensures { sums.new ≡ stored 4 sums.old (4 * v) (of_z w32 x) }
 {
-    store32(sums, 4 * v, bits_of(x));
+    store32(sums, 4 * v, x.cast_unsigned());
 }
 
 // The bit pattern of channel value v.

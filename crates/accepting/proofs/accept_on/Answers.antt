@@ -1,75 +1,26 @@
-use mathlib.Core.Path.{◌≡◌, refl, sym, ap, ◌∙◌}
-use mathlib.Core.Bool.{not}
-use Rattle.refusals.specs.Refusals.{unless}
-use Rattle.refusals.specs.declared.Refusal.TheVariants.{Blank}
-use Rattle.refusals.specs.declared.Judged.{Judged}
-use Rattle.refusals.specs.declared.Judged.TheVariants.{Admitted}
-use Rattle.settings.specs.declared.Checked.TheVariants.{Good}
-use Rattle.settings.specs.Settings.{settings, settings_judged, checked, settings_of}
-use Rattle.settings.specs.Values.{values_judged}
-use Rattle.decoding.specs.Frames.{frame}
-use Rattle.decoding.specs.Decoding.{frame_judged}
-use Rattle.decoding.proofs.Accepting.{length_refused, settings_refused, values_judged_lem, frame_asked, frame_exposed, frame_refused, memory_refused, all_admitted, answered, checked_refused, checked_good, blank_told}
-use Rattle.settings.specs.declared.Parameters.{Parameters}
-use Rattle.settings.specs.declared.Settings.{Settings}
+use borrow.Author.Rules.{rules}
+use Rattle.decoding.specs.Frames.{frame_lent}
+use Rattle.accepting.proofs.Ending.{count_off, settings_off, values_off, blank_off, memory_off, accepted}
 use Rattle.accepting.proofs.accept_on.Goals as goal
 
-good_settings : (asked : Parameters) {s : Settings} → settings_of asked ≡ Good s → settings_judged asked ≡ Admitted
-unfolding settings_of
-good_settings asked h = checked_good (settings_judged asked) (settings asked) h
+pub returns-then-count-frame : goal.returns-then-count-frame
+returns-then-count-frame c = count_off (frame_lent c.args.frame) c.args.room c.if-count-frame.true
 
-pub returns-then-count-n : goal.returns-then-count-n
-returns-then-count-n c =
-    let F = frame c.args.n c.args.starts.now c.args.columns.now c.args.values.now c.args.asked in
-    answered F c.args.room (frame_refused F Admitted c.args.room (frame_asked F Admitted refl (length_refused F c.if-count-n.true))) refl
+pub returns-in_err-settings : goal.returns-in_err-settings
+returns-in_err-settings c = search (rules, settings_off (frame_lent c.args.frame) c.args.room c.if-count-frame.false c.in_err-settings.ensures)
 
-pub returns-in_default : goal.returns-in_default
-unfolding settings_of
-returns-in_default c =
-    let F = frame c.args.n c.args.starts.now c.args.columns.now c.args.values.now c.args.asked in
-    let told = c.in_default.is in
-    answered F c.args.room
-    (frame_refused F Admitted c.args.room (frame_asked F Admitted refl
-    (settings_refused F c.if-count-n.false (checked_refused (settings_judged c.args.asked) (settings c.args.asked) (sym c.check_settings-c.ensures ∙ told))))) told
-
-pub returns-in-Refused : goal.returns-in-Refused
-returns-in-Refused c =
-    let F = frame c.args.n c.args.starts.now c.args.columns.now c.args.values.now c.args.asked in
-    let settled : settings_of c.args.asked ≡ Good c.in-Good.s = sym c.check_settings-c.ensures ∙ c.in-Good.is in
-    let settings_good = good_settings c.args.asked settled in
-    let valued = λ (j : Judged) (e : values_judged c.args.values.now ≡ j). values_judged_lem F c.if-count-n.false settings_good e in
-    answered F c.args.room
-    (frame_refused F Admitted c.args.room (frame_asked F Admitted refl (valued _ (sym c.check_values-j.ensures ∙ c.in-Refused.is)))) refl
+pub returns-in_err-check_values : goal.returns-in_err-check_values
+returns-in_err-check_values c =
+    search (rules, values_off (frame_lent c.args.frame) c.args.room c.if-count-frame.false c.in_ok-settings.ensures c.in_err-check_values.ensures)
 
 pub returns-then-blank : goal.returns-then-blank
 returns-then-blank c =
-    let F = frame c.args.n c.args.starts.now c.args.columns.now c.args.values.now c.args.asked in
-    let settled : settings_of c.args.asked ≡ Good c.in-Good.s = sym c.check_settings-c.ensures ∙ c.in-Good.is in
-    let settings_good = good_settings c.args.asked settled in
-    let valued = λ (j : Judged) (e : values_judged c.args.values.now ≡ j). values_judged_lem F c.if-count-n.false settings_good e in
-    let exposure : frame_judged F Admitted ≡ unless (not c.is_blank-blank.result) Blank = frame_exposed F Admitted refl (valued _ (sym c.check_values-j.ensures ∙ c.in_default-j.is)) (blank_told F settled c.is_blank-blank.ensures) in
-    answered F c.args.room (frame_refused F Admitted c.args.room (exposure ∙ ap (λ b. unless (not b) Blank) c.if-blank.true)) refl
+    blank_off (frame_lent c.args.frame) c.args.room c.if-count-frame.false c.in_ok-settings.ensures c.in_ok-check_values.ensures c.is_blank-blank.ensures c.if-blank.true
 
 pub returns-then-not-enough : goal.returns-then-not-enough
 returns-then-not-enough c =
-    let F = frame c.args.n c.args.starts.now c.args.columns.now c.args.values.now c.args.asked in
-    let settled : settings_of c.args.asked ≡ Good c.in-Good.s = sym c.check_settings-c.ensures ∙ c.in-Good.is in
-    let settings_good = good_settings c.args.asked settled in
-    let valued = λ (j : Judged) (e : values_judged c.args.values.now ≡ j). values_judged_lem F c.if-count-n.false settings_good e in
-    let exposure : frame_judged F Admitted ≡ unless (not c.is_blank-blank.result) Blank = frame_exposed F Admitted refl (valued _ (sym c.check_values-j.ensures ∙ c.in_default-j.is)) (blank_told F settled c.is_blank-blank.ensures) in
-    let exposed : frame_judged F Admitted ≡ Admitted = exposure ∙ ap (λ b. unless (not b) Blank) c.if-blank.false in
-    answered F c.args.room
-    (memory_refused F Admitted c.args.room exposed (sym c.long_enough-enough.ensures ∙ c.if-not-enough.true)) refl
+    memory_off (frame_lent c.args.frame) c.args.room c.if-count-frame.false c.in_ok-settings.ensures c.in_ok-check_values.ensures c.is_blank-blank.ensures c.if-blank.false c.entries.ensures c.long_enough-enough.ensures c.if-not-enough.true
 
 pub returns : goal.returns
-unfolding settings_of
 returns c =
-    let F = frame c.args.n c.args.starts.now c.args.columns.now c.args.values.now c.args.asked in
-    let settled : settings_of c.args.asked ≡ Good c.in-Good.s = sym c.check_settings-c.ensures ∙ c.in-Good.is in
-    let settings_good = good_settings c.args.asked settled in
-    let valued = λ (j : Judged) (e : values_judged c.args.values.now ≡ j). values_judged_lem F c.if-count-n.false settings_good e in
-    let exposure : frame_judged F Admitted ≡ unless (not c.is_blank-blank.result) Blank = frame_exposed F Admitted refl (valued _ (sym c.check_values-j.ensures ∙ c.in_default-j.is)) (blank_told F settled c.is_blank-blank.ensures) in
-    let exposed : frame_judged F Admitted ≡ Admitted = exposure ∙ ap (λ b. unless (not b) Blank) c.if-blank.false in
-    answered F c.args.room
-    (all_admitted F Admitted c.args.room exposed (sym c.long_enough-enough.ensures ∙ c.if-not-enough.false))
-    (sym settled ∙ ap (λ j. checked j (settings c.args.asked)) settings_good)
+    accepted (frame_lent c.args.frame) c.args.room c.if-count-frame.false c.in_ok-settings.ensures c.in_ok-check_values.ensures c.is_blank-blank.ensures c.if-blank.false c.entries.ensures c.long_enough-enough.ensures c.if-not-enough.false

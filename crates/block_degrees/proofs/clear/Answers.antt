@@ -11,9 +11,6 @@ put_degree-requires c = omega (arith, clearing_room c.loop-j.invariant (omega ar
 pub overflow_add-v : goal.overflow_add-v
 overflow_add-v c = omega (arith, clearing_room c.loop-j.invariant (omega arith), c.requires.0, c.requires.1)
 
-pub overflow_add-j : goal.overflow_add-j
-overflow_add-j c = omega (arith, clearing_room c.loop-j.invariant (omega arith), c.requires.0, c.requires.1)
-
 pub loop-j-preserved : goal.loop-j-preserved
 loop-j-preserved c = clearing_more c.loop-j.invariant (omega arith) c.put_degree.ensures
 

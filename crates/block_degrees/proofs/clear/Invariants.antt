@@ -1,9 +1,5 @@
-use Prim.Native.Nat.{◌-◌}
 use Rattle.block_degrees.proofs.Heads.{Clearing}
 use Rattle.block_degrees.proofs.clear.Given as goal
 
 abbrev pub invariant-loop-j : goal.invariant-loop-j
 invariant-loop-j l = Clearing l.columns l.size l.initial.degrees l.degrees l.j l.v
-
-abbrev pub decreases-loop-j : goal.decreases-loop-j
-decreases-loop-j l = l.columns - l.j

@@ -25,9 +25,6 @@ returns-then-not-in_range c =
 pub overflow_add-v : goal.overflow_add-v
 overflow_add-v c = omega (arith, looking_room c.loop-j.invariant (omega arith), c.requires.variables)
 
-pub overflow_add-j : goal.overflow_add-j
-overflow_add-j c = omega (arith, looking_room c.loop-j.invariant (omega arith), c.requires.variables, c.requires.some)
-
 pub loop-j-preserved : goal.loop-j-preserved
 loop-j-preserved c =
     let found : c.in_range.result ≡ between least_variable_degree (degree_at c.args.degrees.now c.loop-j.v) limits.variable_degree = c.in_range.ensures ∙ ap (λ d. between least_variable_degree d limits.variable_degree) c.degree.ensures.0 in

@@ -17,9 +17,6 @@ fill-requires c = (omega arith, omega (arith, spreading_room c.loop-j.invariant 
 pub overflow_add-v-in-loop-j : goal.overflow_add-v-in-loop-j
 overflow_add-v-in-loop-j c = omega (arith, spreading_room c.loop-j.invariant (omega arith), c.requires.0, c.requires.1)
 
-pub overflow_add-j : goal.overflow_add-j
-overflow_add-j c = omega (arith, spreading_room c.loop-j.invariant (omega arith), c.requires.0, c.requires.1)
-
 pub loop-j-preserved : goal.loop-j-preserved
 loop-j-preserved c = spreading_more c.loop-j.invariant (omega arith) c.degree-d.ensures.0 (omega arith) c.fill.ensures
 

@@ -1,3 +1,4 @@
+use Rattle.std.proofs.Common.{rules}
 use mathlib.Core.Path.{refl}
 use native.Mathlib.Omega.{arith}
 use Rattle.block_sheets.specs.Reader.Storing.{blocks_from}
@@ -10,20 +11,28 @@ returns-then-degrees-counts c = degrees_short c.requires (omega arith)
 pub count_lines-rows-requires : goal.count_lines-rows-requires
 count_lines-rows-requires c = (c.requires, judgeable c.requires (omega arith))
 
-pub judge-j-requires : goal.judge-j-requires
-judge-j-requires c = judgeable c.requires (omega (arith, c.degrees-1.given))
+pub judge-requires : goal.judge-requires
+judge-requires c = judgeable c.requires (omega arith)
 
-pub returns-in-Refused : goal.returns-in-Refused
-returns-in-Refused c = let q = c.judge-j.ensures (blocks_from c.args.text.now c.args.counts c.args.at) c.args.degrees.now c.requires.valid refl c.count_lines-rows.ensures in degrees_refused c.requires (omega arith) q c.in-Refused.is
+pub returns-in_err-judge : goal.returns-in_err-judge
+returns-in_err-judge c =
+    let q = c.in_err-judge.ensures (blocks_from c.args.text.now c.args.counts c.args.at) c.args.degrees.now c.requires.valid refl c.count_lines-rows.ensures in
+    search (rules, degrees_refused c.requires (omega arith) q {s = c.args.starts} {c = c.args.columns} refl)
 
 pub returns-then-starts-counts : goal.returns-then-starts-counts
-returns-then-starts-counts c = let q = c.judge-j.ensures (blocks_from c.args.text.now c.args.counts c.args.at) c.args.degrees.now c.requires.valid refl c.count_lines-rows.ensures in starts_short c.requires (omega arith) q c.in_default.is (omega arith)
+returns-then-starts-counts c =
+    let q = c.in_ok-judge.ensures (blocks_from c.args.text.now c.args.counts c.args.at) c.args.degrees.now c.requires.valid refl c.count_lines-rows.ensures in
+    starts_short c.requires (omega arith) q refl (omega arith)
 
 pub overflow_mul-counts-3 : goal.overflow_mul-counts-3
 overflow_mul-counts-3 c = record { fits = omega (arith, entries_small c.requires) }
 
 pub returns-then-columns-counts : goal.returns-then-columns-counts
-returns-then-columns-counts c = let q = c.judge-j.ensures (blocks_from c.args.text.now c.args.counts c.args.at) c.args.degrees.now c.requires.valid refl c.count_lines-rows.ensures in columns_short c.requires (omega arith) q c.in_default.is (omega arith)
+returns-then-columns-counts c =
+    let q = c.in_ok-judge.ensures (blocks_from c.args.text.now c.args.counts c.args.at) c.args.degrees.now c.requires.valid refl c.count_lines-rows.ensures in
+    columns_short c.requires (omega arith) q refl (omega arith)
 
 pub returns : goal.returns
-returns c = let q = c.judge-j.ensures (blocks_from c.args.text.now c.args.counts c.args.at) c.args.degrees.now c.requires.valid refl c.count_lines-rows.ensures in long_enough_lem c.requires (omega arith) q c.in_default.is (omega arith) (omega arith)
+returns c =
+    let q = c.in_ok-judge.ensures (blocks_from c.args.text.now c.args.counts c.args.at) c.args.degrees.now c.requires.valid refl c.count_lines-rows.ensures in
+    long_enough_lem c.requires (omega arith) q refl (omega arith) (omega arith)

@@ -1,15 +1,13 @@
-use mathlib.Core.Path.{subst}
-use Rattle.block_sheets.specs.Text.Reading.{block_lines}
-use Rattle.block_sheets.specs.Text.Scanning.{ScannedAs}
+use Rattle.std.proofs.Common.{rules}
 use Rattle.block_sheets.proofs.Reader.Entries.{blocks_at}
 use Rattle.block_sheets.proofs.Reader.Calls.{lines_refused, read_into}
 use Rattle.block_sheet.proofs.read.Goals as goal
 
-pub returns-in-Refused : goal.returns-in-Refused
-returns-in-Refused c = lines_refused {t = c.args.text.now} (subst (ScannedAs c.args.text.now (block_lines c.args.text.now)) c.in-Refused.is c.scan-scanned.ensures)
-
 pub finish-requires : goal.finish-requires
-finish-requires c = blocks_at (subst (ScannedAs c.args.text.now (block_lines c.args.text.now)) c.in-Lines.is c.scan-scanned.ensures)
+finish-requires c = blocks_at c.in_ok-counts.ensures
 
-pub returns-in-Lines : goal.returns-in-Lines
-returns-in-Lines c = read_into (subst (ScannedAs c.args.text.now (block_lines c.args.text.now)) c.in-Lines.is c.scan-scanned.ensures) c.finish.ensures
+pub returns-in_err-counts : goal.returns-in_err-counts
+returns-in_err-counts c = search (rules, lines_refused {t = c.args.text.now} c.in_err-counts.ensures)
+
+pub returns : goal.returns
+returns c = read_into c.in_ok-counts.ensures c.finish.ensures

@@ -1,13 +1,12 @@
 -- A block sheet is accepted exactly when it is the text of blocks in range and order, their expansion is admitted, and the lists suffice.
+use Rattle.std.specs.Prelude.{Ok, Err}
 use mathlib.Core.Path.{◌≡◌, refl, sym, ap, ◌∙◌, subst}
 use mathlib.Core.List.{List}
 use Prim.Native.Nat.{ℕ, suc, ◌*◌}
 use borrow.Author.Tests.{le-leb}
 use Rattle.rules.specs.Graphs.{Graph, limits, Admitted}
-use Rattle.refusals.specs.Refusals.{unless}
+use Rattle.refusals.specs.Refusals.{unless, Judged}
 use Rattle.refusals.specs.declared.Refusal.TheVariants.{Buffer}
-use Rattle.refusals.specs.declared.Judged.{Judged}
-use Rattle.refusals.specs.declared.Judged.TheVariants as Judgement
 use Rattle.refusals.proofs.Judging.{or_else_left, or_else_right}
 use Rattle.words.specs.Roles.{wide}
 use Rattle.graphs.specs.Judging.{check_degrees_judged, variable_degrees_judged, degrees_judged}
@@ -27,7 +26,7 @@ use Rattle.block_sheets.specs.Reader.Reading.{read_blocks, block_read_in}
 use Rattle.block_sheets.specs.Reader.Theorems.{ReadFrom, BlocksAccepted}
 
 -- valid blocks whose expansion has good degrees
-pub expansion_admitted : (b : Blocks) → Valid b → degrees_judged limits (expansion b) ≡ Judgement.Admitted → Admitted (expansion b)
+pub expansion_admitted : (b : Blocks) → Valid b → degrees_judged limits (expansion b) ≡ Ok tt → Admitted (expansion b)
 expansion_admitted b v e =
     let x = expanding b v.ordered in
     let G = expansion b in
@@ -52,8 +51,8 @@ only t d s c G e = go (block_lines t) refl e
   where
     end : (k : Triple) (ps : List Triple) → block_lines t ≡ lines k ps → (j : Judged) → after_lines_in limits (expansion (blocks_of k ps)) d s c ≡ j
         → unless_refused j (expansion (blocks_of k ps)) ≡ graph G → ReadFrom t d s c G
-    end k ps x (Judgement.Refused r) p q = absurd (turned_not q)
-    end k ps x Judgement.Admitted p q =
+    end k ps x (Err r) p q = absurd (turned_not q)
+    end k ps x (Ok _) p q =
         let b = blocks_of k ps in
         let H : Graph = expansion b in
         let told = texts_and_blocks.accepted t k ps x in

@@ -1,19 +1,17 @@
 -- The whole call: from the lines of a block sheet to what follows them.
+use Rattle.std.specs.Prelude.{Ok, Err}
 use mathlib.Core.Path.{◌≡◌, refl, sym, ap, ◌∙◌, subst}
 use mathlib.Core.List.{List}
 use Prim.Native.Nat.{ℕ}
 use lib.ListN.{length}
 use Rattle.rules.specs.Graphs.{Graph, limits}
 use Rattle.refusals.specs.declared.Refusal.{Refusal}
-use Rattle.refusals.specs.declared.Judged.{Judged}
-use Rattle.refusals.specs.declared.Judged.TheVariants as Judgement
+use Rattle.refusals.specs.Refusals.{Judged}
 use Rattle.texts.specs.Triples.{Triple}
 use Rattle.texts.specs.Reading.{Lines, refused}
 use Rattle.texts.specs.Scanning.{LinesAt}
-use Rattle.code_sheets.specs.Reader.Reading.{Reading, after_lines_in, unless_refused, read_judged, degrees_in, ReadAs}
+use Rattle.code_sheets.specs.Reader.Reading.{Reading, after_lines_in, unless_refused, read_judged, degrees_in, ReadAs, Sheet}
 use Rattle.code_sheets.specs.Reader.Storing.{AfterLines, Finished}
-use Rattle.code_sheets.specs.declared.Sheet.{Sheet}
-use Rattle.code_sheets.specs.declared.Sheet.TheVariants as Answer
 use Rattle.block_sheets.specs.Text.Expansion.{expansion}
 use Rattle.block_sheets.specs.Text.Reading.{block_entries, room_of, block_lines}
 use Rattle.block_sheets.specs.Text.Scanning.{counts_in}
@@ -26,19 +24,19 @@ use Rattle.block_sheets.proofs.Reader.Entries.{lines_are}
 -- ---- the lines are refused
 
 module _ {t : List ℕ} {r : Refusal} (e : block_lines t ≡ refused r) where
-  pub lines_refused : {d s c : List ℕ} → BlocksReadInto t (Answer.Refused r) d d s s c c
+  pub lines_refused : {d s c : List ℕ} → BlocksReadInto t (Err r) d d s s c c
   unfolding block_read_in
   lines_refused = record { read = rw e (record { answer = refl; starts = refl; columns = refl }); degrees = rw e }
 
-  pub lines_judged_lem : {d : List ℕ} {s c : ℕ} → BlocksJudgedInto t (Judgement.Refused r) d d s c
+  pub lines_judged_lem : {d : List ℕ} {s c : ℕ} → BlocksJudgedInto t (Err r) d d s c
   unfolding block_read_in
   lines_judged_lem = record { judged = rw e; degrees = rw e }
 
 -- ---- the lines are not refused
 
 pub judged_back : (j : Judged) (G : Graph) → read_judged (unless_refused j G) ≡ j
-judged_back Judgement.Admitted G = refl
-judged_back (Judgement.Refused r) G = refl
+judged_back (Ok _) G = refl
+judged_back (Err r) G = refl
 
 module _ {t : List ℕ} {k : Counts} {at : ℕ} (h : LinesAt block_entries (room_of k.size) t (block_lines t) (counts_in k) k.entries at) where
   abbrev G : Graph

@@ -1,4 +1,5 @@
 -- What the tests of line 2 and of an entry mean, and that numbers kept up to the cap are judged alike.
+use Rattle.std.specs.Prelude.{Ok}
 use mathlib.Core.Path.{◌≡◌, refl, sym, ap, ap₂, ◌∙◌}
 use mathlib.Core.Bool.{Bool, ◌&&◌}
 use Prim.Native.Nat.{ℕ, zero, suc, ◌+◌, ◌*◌, ◌≤◌, ◌<◌, min}
@@ -8,10 +9,8 @@ use native.Mathlib.Omega.{arith}
 use borrow.Author.Tests.{lt-ltb, le-ltb, ltb-true}
 use lib.Dec.{ltb}
 use Rattle.rules.specs.Graphs.{limits, fewest_variables, fewest_checks}
-use Rattle.refusals.specs.Refusals.{unless, or_else}
+use Rattle.refusals.specs.Refusals.{unless, or_else, Judged}
 use Rattle.refusals.specs.declared.Refusal.TheVariants.{Count, Range, Order, Shift}
-use Rattle.refusals.specs.declared.Judged.{Judged}
-use Rattle.refusals.specs.declared.Judged.TheVariants.{Admitted}
 use Rattle.refusals.proofs.Judging.{or_else_left, or_else_right, or_else_both, unless_true}
 use Rattle.rules.proofs.Tests.{and_no}
 use Rattle.texts.specs.Lines.{Pair, pair}
@@ -37,12 +36,12 @@ module _ (c : Triple) (low : Pair) (p : Triple) (l : ℕ) where
   abbrev order : Judged
   order = unless (not_before low (place p)) (Order l)
 
-  pub fits_judged : BlockFits c low p → block_judged c l low p ≡ Admitted
+  pub fits_judged : BlockFits c low p → block_judged c l low p ≡ Ok tt
   fits_judged f =
       let h = Sheet.fits_judged (pair c.third c.second) low (place p) l f.place_fits in
       or_else_both (or_else_left range order h) (or_else_both (ap (λ (b : Bool). unless b (Shift l)) (lt-ltb p.third c.first f.shift)) (or_else_right range order h))
 
-  pub judged_fits : block_judged c l low p ≡ Admitted → BlockFits c low p
+  pub judged_fits : block_judged c l low p ≡ Ok tt → BlockFits c low p
   judged_fits h =
       let rest = or_else_right range (or_else shift order) h in
       record {
@@ -58,10 +57,10 @@ abbrev pub Within : Pair → Type 0
 Within c = ((fewest_variables ≤ c.first) × (c.first ≤ limits.variables)) × ((fewest_checks ≤ c.second) × (c.second ≤ limits.checks))
 
 module _ (c : Triple) where
-  pub within_judged_lem : 0 < c.first → Within (expanded c) → size_judged c ≡ Admitted
+  pub within_judged_lem : 0 < c.first → Within (expanded c) → size_judged c ≡ Ok tt
   within_judged_lem z w = rw (lt-ltb 0 c.first z, counts_fit_lem limits (expanded c) w.0 w.1)
 
-  pub judged_within : size_judged c ≡ Admitted → (0 < c.first) × Within (expanded c)
+  pub judged_within : size_judged c ≡ Ok tt → (0 < c.first) × Within (expanded c)
   judged_within h =
       let zero = unless (ltb 0 c.first) (Shift 2) in
       let counts = unless (counts_fit limits (expanded c)) (Count 2) in (
@@ -129,7 +128,7 @@ capped_block c low l p a b d hz hm hn ea eb ed = go (dec_lt p.first cap) (dec_lt
 
 -- the place after an entry that was not refused, as the code keeps it
 pub after_capped : (c : Triple) (low : Pair) (l : ℕ) (p : Triple) (a b : ℕ) → c.second ≤ cap → c.third ≤ cap
-    → a ≡ min p.first cap → b ≡ min p.second cap → block_judged c l low p ≡ Admitted → after (place p) ≡ pair a (b + 1)
+    → a ≡ min p.first cap → b ≡ min p.second cap → block_judged c l low p ≡ Ok tt → after (place p) ≡ pair a (b + 1)
 after_capped c low l p a b hm hn ea eb j =
     let f = (judged_fits c low p l j).place_fits in
     ap₂ pair (omega (arith, f.check)) (omega (arith, f.variable))
@@ -151,7 +150,7 @@ factor (suc x) (suc z) most l u = (
   omega (arith, mul-le-mul {n₁ = 1} {m₁ = suc z} {n₂ = suc x} {m₂ = suc z} (omega arith) (omega arith)),
 )
 
-pub exact : (c : Triple) (a b d : ℕ) → a ≡ min c.first cap → b ≡ min c.second cap → d ≡ min c.third cap → size_judged c ≡ Admitted → Exact c a b d
+pub exact : (c : Triple) (a b d : ℕ) → a ≡ min c.first cap → b ≡ min c.second cap → d ≡ min c.third cap → size_judged c ≡ Ok tt → Exact c a b d
 exact c a b d ea eb ed h =
     let w = judged_within c h in
     let n = factor c.third c.first limits.variables (omega (arith, w.1.0.0)) w.1.0.1 in

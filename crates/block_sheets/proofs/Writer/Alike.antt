@@ -1,4 +1,5 @@
 -- What is written is read back, and what the writer refuses the reader refuses.
+use Rattle.std.specs.Prelude.{Ok}
 use mathlib.Core.Path.{◌≡◌, refl, sym, ap, ◌∙◌}
 use mathlib.Core.Bool.{Bool, true}
 use Prim.Native.Nat.{ℕ, suc, ◌*◌, ◌≤◌}
@@ -6,10 +7,8 @@ use borrow.Author.Tests.{le-leb}
 use lib.Dec.{leb}
 use lib.ListN.{length}
 use Rattle.rules.specs.Graphs.{Graph, limits}
-use Rattle.refusals.specs.Refusals.{unless, or_else}
+use Rattle.refusals.specs.Refusals.{unless, or_else, Judged}
 use Rattle.refusals.specs.declared.Refusal.TheVariants.{Buffer}
-use Rattle.refusals.specs.declared.Judged.{Judged}
-use Rattle.refusals.specs.declared.Judged.TheVariants as Judgement
 use Rattle.refusals.proofs.Judging.{or_else_left, or_else_right, or_else_both}
 use Rattle.rules.proofs.Tests.{and_both}
 use Rattle.words.specs.Roles.{wide}
@@ -34,7 +33,7 @@ module _ (b : Blocks) where
 
   -- what both find after the lines
   abbrev after : ℕ → Judged
-  after d = or_else (unless (room_for_degrees G d) Buffer) (or_else (degrees_judged limits G) Judgement.Admitted)
+  after d = or_else (unless (room_for_degrees G d) Buffer) (or_else (degrees_judged limits G) (Ok tt))
 
   alike : (d room s c : ℕ) → length (block_text b) ≤ room → room_for G s c ≡ true → blocks_write_finds b d room ≡ read_judged (block_read_in (block_text b) d s c)
   unfolding block_read_in
@@ -56,7 +55,7 @@ module _ (b : Blocks) where
   room_is s c d h = and_both (le-leb (wide * suc G.checks) s h.starts) (le-leb (wide * G.entries) c h.columns)
 
   -- nothing is refused of the text
-  reads : (d room : ℕ) → blocks_write_finds b d room ≡ Judgement.Admitted → (s c : ℕ) → Suffice G d s c → block_read_in (block_text b) d s c ≡ graph G
+  reads : (d room : ℕ) → blocks_write_finds b d room ≡ Ok tt → (s c : ℕ) → Suffice G d s c → block_read_in (block_text b) d s c ≡ graph G
   unfolding block_read_in
   reads d room e s c h =
       ap (read_blocks (λ H. after_lines_in limits H d s c)) (texts_and_blocks.refused_alike b ∙ (lines_are b (or_else_left (lines_judged (found b)) rest e)).0)
@@ -71,12 +70,12 @@ module _ (b : Blocks) where
       rest : Judged
       rest = or_else list (or_else (degrees_judged limits G) text)
 
-      good : degrees_judged limits G ≡ Judgement.Admitted
+      good : degrees_judged limits G ≡ Ok tt
       good =
           or_else_left (degrees_judged limits G) text
           (or_else_right list (or_else (degrees_judged limits G) text) (or_else_right (lines_judged (found b)) rest e))
 
-      after_lines_lem : after_lines_in limits G d s c ≡ Judgement.Admitted
+      after_lines_lem : after_lines_in limits G d s c ≡ Ok tt
       after_lines_lem =
           or_else_both (ap (λ (t : Bool). unless t Buffer) (le-leb (4 * G.variables) d h.degrees))
           (or_else_both good (ap (λ (t : Bool). unless t Buffer) (room_is s c d h)))

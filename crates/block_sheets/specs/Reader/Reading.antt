@@ -1,11 +1,10 @@
 -- Document 02, item 2: reading a block sheet. 'The result is the ordinary graph, under the ordinary limits and refusals.'
 use Rattle.std.specs.Prelude.{◌≡◌, List, ℕ, length}
 use Rattle.rules.specs.Graphs.{Graph, limits}
-use Rattle.refusals.specs.declared.Judged.{Judged}
+use Rattle.refusals.specs.Refusals.{Judged}
 use Rattle.texts.specs.Triples.{Triple}
 use Rattle.texts.specs.Reading.{Lines, refused, lines}
-use Rattle.code_sheets.specs.Reader.Reading.{Reading, turned, after_lines_in, unless_refused, read_judged, ReadAs}
-use Rattle.code_sheets.specs.declared.Sheet.{Sheet}
+use Rattle.code_sheets.specs.Reader.Reading.{Reading, turned, after_lines_in, unless_refused, read_judged, ReadAs, Sheet}
 use Rattle.block_sheets.specs.Text.Expansion.{expansion}
 use Rattle.block_sheets.specs.Text.Reading.{blocks_of, block_lines}
 use Rattle.block_sheets.specs.Degrees.Lending.{block_degrees_of}

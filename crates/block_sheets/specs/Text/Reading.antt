@@ -1,8 +1,7 @@
 -- Document 02, item 2: the block sheet's lines, and what is refused of them.
 use Rattle.std.specs.Prelude.{◌&&◌, List, ℕ, ◌*◌, ◌/◌, ltb}
-use Rattle.refusals.specs.Refusals.{unless, or_else}
+use Rattle.refusals.specs.Refusals.{unless, or_else, Judged}
 use Rattle.refusals.specs.declared.Refusal.TheVariants.{Count, Range, Order, Shift}
-use Rattle.refusals.specs.declared.Judged.{Judged}
 use Rattle.texts.specs.Quoted.{ascii}
 use Rattle.texts.specs.Lines.{Pair, pair}
 use Rattle.rules.specs.Graphs.{limits}

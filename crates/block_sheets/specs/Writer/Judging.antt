@@ -1,9 +1,8 @@
 -- What the parts of judging owe.
 use Rattle.std.specs.Prelude.{◌≡◌, List, [], ℕ, length}
 use Rattle.rules.specs.Graphs.{limits}
-use Rattle.refusals.specs.Refusals.{unless, or_else}
+use Rattle.refusals.specs.Refusals.{unless, or_else, Judged}
 use Rattle.refusals.specs.declared.Refusal.TheVariants.{Buffer}
-use Rattle.refusals.specs.declared.Judged.{Judged}
 use Rattle.graphs.specs.Judging.{degrees_judged}
 use Rattle.texts.specs.Triples.{Triple}
 use Rattle.texts.specs.Reading.{Lines, walked}

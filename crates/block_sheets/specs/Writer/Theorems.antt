@@ -1,6 +1,5 @@
 -- How much memory a block sheet needs, and how its writer and its reader agree.
-use Rattle.std.specs.Prelude.{◌≡◌, true, List, ℕ, ◌+◌, ◌*◌, ◌≤◌, length}
-use Rattle.refusals.specs.declared.Judged.TheVariants.{Admitted}
+use Rattle.std.specs.Prelude.{◌≡◌, true, List, ℕ, ◌+◌, ◌*◌, ◌≤◌, length, Ok}
 use Rattle.texts.specs.Reading.{lines}
 use Rattle.code_sheets.specs.Reader.Reading.{graph, room_for, read_judged}
 use Rattle.code_sheets.specs.Reader.Theorems.{Suffice}
@@ -19,7 +18,7 @@ pub record WrittenAndRead : Type 0 where
   -- 'the only block sheet that has them': no other text has lines of these numbers
   pub only : (b : Blocks) (t : List ℕ) → block_lines t ≡ lines (counted b) b.entries → t ≡ block_text b
   -- 'which reads to their expansion': what is written is accepted where the reader's lists suffice, and gives that graph
-  pub reads : (b : Blocks) (d room : ℕ) → blocks_write_finds b d room ≡ Admitted → (s c : ℕ) → Suffice (expansion b) d s c
+  pub reads : (b : Blocks) (d room : ℕ) → blocks_write_finds b d room ≡ Ok tt → (s c : ℕ) → Suffice (expansion b) d s c
       → block_read_in (block_text b) d s c ≡ graph (expansion b)
   -- 'refuses as its reader would': of any numbers, with a list of degrees as long, writer and reader find the same, number and place, where the
   -- text has room and the expansion's lists have

@@ -1,36 +1,31 @@
+use Rattle.std.proofs.Common.{rules}
+use mathlib.Core.Path.{refl}
 use native.Mathlib.Omega.{arith}
-use Rattle.block_sheets.specs.Text.Blocks.{Blocks}
-use Rattle.block_sheets.specs.Writer.Writing.{blocks_given}
+use Rattle.block_sheets.specs.Writer.Writing.{blocks_lent}
 use Rattle.block_writer.proofs.Entries.{few}
 use Rattle.block_sheets.proofs.Writer.Judging.{lines_turned, lines_good, degrees_turned, buffer_turned, none_turned}
 use Rattle.block_writer.proofs.judge_write.Goals as goal
 
-pub returns-in-Refused : goal.returns-in-Refused
-returns-in-Refused c =
-    let B : Blocks = blocks_given c.args.size c.args.rows c.args.columns c.args.entries.now in
-    lines_turned B c.args.room c.judge_lines-lines.ensures c.in-Refused.is c.args.degrees.now
+pub returns-in_err-judge_lines : goal.returns-in_err-judge_lines
+returns-in_err-judge_lines c =
+    search (rules, lines_turned (blocks_lent c.args.blocks) c.args.room c.in_err-judge_lines.ensures refl c.args.degrees.now)
 
-pub judge_degrees-after-requires : goal.judge_degrees-after-requires
-judge_degrees-after-requires c =
-    let B : Blocks = blocks_given c.args.size c.args.rows c.args.columns c.args.entries.now in
-    lines_good B c.args.room c.judge_lines-lines.ensures c.in_default.is
+pub judge_degrees-requires : goal.judge_degrees-requires
+judge_degrees-requires c =
+    lines_good (blocks_lent c.args.blocks) c.args.room c.in_ok-judge_lines.ensures refl
 
-pub returns-in-Refused-after : goal.returns-in-Refused-after
-returns-in-Refused-after c =
-    let B : Blocks = blocks_given c.args.size c.args.rows c.args.columns c.args.entries.now in
-    degrees_turned B c.args.room c.judge_lines-lines.ensures c.in_default.is c.judge_degrees-after.ensures c.in-Refused-after.is
+pub returns-in_err-judge_degrees : goal.returns-in_err-judge_degrees
+returns-in_err-judge_degrees c =
+    search (rules, degrees_turned (blocks_lent c.args.blocks) c.args.room c.in_ok-judge_lines.ensures refl c.in_err-judge_degrees.ensures refl)
 
 pub sheet_length-requires : goal.sheet_length-requires
 sheet_length-requires c =
-    let B : Blocks = blocks_given c.args.size c.args.rows c.args.columns c.args.entries.now in
-    few c.args.entries.now (lines_good B c.args.room c.judge_lines-lines.ensures c.in_default.is)
+    few c.args.blocks.entries.now (lines_good (blocks_lent c.args.blocks) c.args.room c.in_ok-judge_lines.ensures refl)
 
 pub returns-then-room-sheet_length : goal.returns-then-room-sheet_length
 returns-then-room-sheet_length c =
-    let B : Blocks = blocks_given c.args.size c.args.rows c.args.columns c.args.entries.now in
-    buffer_turned B c.args.room c.judge_lines-lines.ensures c.in_default.is c.judge_degrees-after.ensures c.in_default-after.is c.sheet_length.ensures (omega arith)
+    buffer_turned (blocks_lent c.args.blocks) c.args.room c.in_ok-judge_lines.ensures refl c.in_ok-judge_degrees.ensures refl c.sheet_length.ensures (omega arith)
 
 pub returns : goal.returns
 returns c =
-    let B : Blocks = blocks_given c.args.size c.args.rows c.args.columns c.args.entries.now in
-    none_turned B c.args.room c.judge_lines-lines.ensures c.in_default.is c.judge_degrees-after.ensures c.in_default-after.is c.sheet_length.ensures (omega arith)
+    none_turned (blocks_lent c.args.blocks) c.args.room c.in_ok-judge_lines.ensures refl c.in_ok-judge_degrees.ensures refl c.sheet_length.ensures (omega arith)

@@ -8,20 +8,20 @@ use Rattle.block_writer.proofs.Entries.{entry_line_lem}
 use Rattle.block_writer.proofs.put_entries.Goals as goal
 
 pub loop-q-init : goal.loop-q-init
-loop-q-init c = (omega arith, put_begun)
+loop-q-init c = put_begun
 
 pub put_line-next-requires : goal.put_line-next-requires
 put_line-next-requires c =
-    let e = entry_line_lem (record { first = c.row-i.ensures.0; second = c.column-j.ensures.0; third = c.shift-k.ensures.0 }) in
-    put_room (length c.args.entries.now / 12) (all_lines c.args.entries.now) c.loop-q.invariant.1 c.requires (omega arith) e
+    let e = entry_line_lem (record { first = c.entry-row.ensures.row.0; second = c.entry-row.ensures.column.0; third = c.entry-row.ensures.shift.0 }) in
+    put_room (length c.args.entries.now / 12) (all_lines c.args.entries.now) c.loop-q.invariant c.requires (omega arith) e
 
 pub loop-q-preserved : goal.loop-q-preserved
 loop-q-preserved c =
-    let e = entry_line_lem (record { first = c.row-i.ensures.0; second = c.column-j.ensures.0; third = c.shift-k.ensures.0 }) in
-    (omega arith, put_next c.loop-q.invariant.1 c.put_line-next.ensures e)
+    let e = entry_line_lem (record { first = c.entry-row.ensures.row.0; second = c.entry-row.ensures.column.0; third = c.entry-row.ensures.shift.0 }) in
+    put_next c.loop-q.invariant c.put_line-next.ensures e
 
 pub shape_of-text : goal.shape_of-text
-shape_of-text c = put_long c.loop-q.invariant.1.put
+shape_of-text c = put_long c.loop-q.invariant.put
 
 pub returns : goal.returns
-returns c = put_all (omega arith) (all_lines c.args.entries.now) c.loop-q.invariant.1
+returns c = put_all (omega arith) (all_lines c.args.entries.now) c.loop-q.invariant

@@ -1,5 +1,10 @@
-use Rattle.settings.proofs.Floats.{positive_is}
+use mathlib.Core.Path.{ap₂, ◌∙◌}
+use mathlib.Core.Bool.{◌&&◌}
+use lib.Ieee.{lt}
+use Rattle.settings.specs.Scaling.{positive}
+use Rattle.settings.proofs.Floats.{zero_is, same_finite}
 use Rattle.channel.proofs.is_positive.Goals as goal
 
 pub returns : goal.returns
-returns c = positive_is c.args.x
+unfolding positive
+returns c = ap₂ (λ b z. b && lt z c.args.x) (c.is_finite.ensures.value ∙ same_finite c.args.x) zero_is

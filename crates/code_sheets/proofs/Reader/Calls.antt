@@ -1,4 +1,5 @@
 -- The whole call: from the lines of a sheet under limits to what follows them; and a list of degrees that is long enough.
+use Rattle.std.specs.Prelude.{Ok, Err}
 use mathlib.Core.Path.{◌≡◌, refl, sym, ap, ◌∙◌, subst}
 use mathlib.Core.List.{List}
 use Prim.Native.Nat.{ℕ, ◌*◌, ◌≤◌}
@@ -7,8 +8,7 @@ use borrow.Author.Tests.{le-leb}
 use lib.ListN.{length, drop}
 use Rattle.rules.specs.Graphs.{Graph, Limits, limits, program_limits}
 use Rattle.refusals.specs.declared.Refusal.{Refusal}
-use Rattle.refusals.specs.declared.Judged.{Judged}
-use Rattle.refusals.specs.declared.Judged.TheVariants as Judgement
+use Rattle.refusals.specs.Refusals.{Judged}
 use Rattle.graphs.specs.Judging.{check_degrees_judged, variable_degrees_judged}
 use Rattle.graphs.proofs.Wider.{program_wider}
 use Rattle.texts.specs.Lines.{pair}
@@ -19,28 +19,26 @@ use Rattle.code_sheets.specs.declared.Counts.{Counts}
 use Rattle.code_sheets.proofs.Text.Order.{Fits}
 use Rattle.code_sheets.proofs.Text.Sheets.{readable, judging, counts_told, sheet_told}
 use Rattle.code_sheets.proofs.Text.Wider.{lines_alike}
-use Rattle.code_sheets.specs.Reader.Reading.{Reading, after_lines, after_lines_in, unless_refused, read_judged, read_lines, sheet_read, sheet_read_in, degrees_in, degrees_of, answer_of, starts_of, columns_of, ReadAs, ReadInto, JudgedInto}
+use Rattle.code_sheets.specs.Reader.Reading.{Reading, after_lines, after_lines_in, unless_refused, read_judged, read_lines, sheet_read, sheet_read_in, degrees_in, degrees_of, answer_of, starts_of, columns_of, ReadAs, ReadInto, JudgedInto, Sheet}
 use Rattle.code_sheets.specs.Reader.Storing.{lines_graph, lines_from, graph_from, EntriesAt, AfterLines, Finished}
 use Rattle.code_sheets.specs.Reader.Theorems.{LongEnough, SameReading, SheetsAsBefore}
-use Rattle.code_sheets.specs.declared.Sheet.{Sheet}
-use Rattle.code_sheets.specs.declared.Sheet.TheVariants as Answer
 
 -- ---- the lines are refused
 
 module _ {L : Limits} {t : List ℕ} {r : Refusal} (e : sheet_lines L t ≡ refused r) where
-  pub lines_refused : {d s c : List ℕ} → ReadInto L t (Answer.Refused r) d d s s c c
+  pub lines_refused : {d s c : List ℕ} → ReadInto L t (Err r) d d s s c c
   unfolding sheet_read_in
   lines_refused = record { answer = rw e; degrees = rw e; starts = rw e; columns = rw e }
 
-  pub lines_judged_lem : {d : List ℕ} {s c : ℕ} → JudgedInto L t (Judgement.Refused r) d d s c
+  pub lines_judged_lem : {d : List ℕ} {s c : ℕ} → JudgedInto L t (Err r) d d s c
   unfolding sheet_read_in
   lines_judged_lem = record { judged = rw e; degrees = rw e }
 
 -- ---- the lines are not refused
 
 judged_back : (j : Judged) (G : Graph) → read_judged (unless_refused j G) ≡ j
-judged_back Judgement.Admitted G = refl
-judged_back (Judgement.Refused r) G = refl
+judged_back (Ok _) G = refl
+judged_back (Err r) G = refl
 
 -- the limits of the degrees are always the same
 same_degrees : (most : Counts) (G : Graph) (d s c : ℕ) → after_lines_in (within most) G d s c ≡ after_lines_in limits G d s c

@@ -1,4 +1,5 @@
 -- The degrees of graphs that agree, and what the degrees of a sheet's graph make of it.
+use Rattle.std.specs.Prelude.{Ok}
 use mathlib.Core.Path.{◌≡◌, ap, ap₂, ◌∙◌}
 use mathlib.Core.List.{List}
 use Prim.Native.Nat.{ℕ, suc, ◌+◌, ◌<◌, ◌-◌}
@@ -8,7 +9,6 @@ use Rattle.rules.specs.Ranges.{count}
 use Rattle.rules.specs.Graphs.{Graph, Limits, AdmittedWithin, least_check_degree, least_variable_degree, check_degree, variable_degree, between}
 use Rattle.refusals.specs.Refusals.{unless, each}
 use Rattle.refusals.specs.declared.Refusal.TheVariants.{Degree}
-use Rattle.refusals.specs.declared.Judged.TheVariants as Judgement
 use Rattle.rules.proofs.Ranges.{count_ext}
 use Rattle.refusals.proofs.Judging.{each_same}
 use Rattle.graphs.specs.Judging.{check_degrees_judged, variable_degrees_judged}
@@ -45,8 +45,8 @@ module _ (L : Limits) (G H : Graph) (s : Same G H) where
       (λ v l. ap₂ (λ (d m : ℕ). unless (between least_variable_degree d L.variable_degree) (Degree (m + v))) (same_variable_degree G H s v) s.checks)
 
 -- a sheet's graph with good degrees is admitted
-pub sheet_admitted : {L : Limits} (c : Pair) (ps : List Pair) → Lined L c ps → check_degrees_judged L (graph_in c ps) ≡ Judgement.Admitted
-    → variable_degrees_judged L (graph_in c ps) ≡ Judgement.Admitted → AdmittedWithin L (graph_in c ps)
+pub sheet_admitted : {L : Limits} (c : Pair) (ps : List Pair) → Lined L c ps → check_degrees_judged L (graph_in c ps) ≡ Ok tt
+    → variable_degrees_judged L (graph_in c ps) ≡ Ok tt → AdmittedWithin L (graph_in c ps)
 sheet_admitted {L} c ps h d v = record {
   variables = (counts_told L c h.counts).0;
   checks = (counts_told L c h.counts).1;

@@ -1,4 +1,5 @@
 -- Texts and admitted graphs determine each other, under any limits.
+use Rattle.std.specs.Prelude.{Ok, Err}
 use mathlib.Core.Path.{◌≡◌, refl, sym, ap, ap₂, ◌∙◌, subst}
 use mathlib.Core.List.{List}
 use Prim.Native.Nat.{ℕ, suc, ◌+◌, ◌*◌, ◌<◌}
@@ -8,11 +9,9 @@ use lib.Dec.{leb}
 use Rattle.words.specs.Roles.{wide}
 use Rattle.rules.specs.Ranges.{joined, tabulate}
 use Rattle.rules.specs.Graphs.{Graph, Limits, AdmittedWithin, check_degree}
-use Rattle.refusals.specs.Refusals.{unless}
+use Rattle.refusals.specs.Refusals.{unless, Judged}
 use Rattle.refusals.specs.declared.Refusal.{Refusal}
 use Rattle.refusals.specs.declared.Refusal.TheVariants.{Buffer}
-use Rattle.refusals.specs.declared.Judged.{Judged}
-use Rattle.refusals.specs.declared.Judged.TheVariants as Judgement
 use Rattle.rules.proofs.Ranges.{joined_ext, tabulate_ext}
 use Rattle.refusals.proofs.Judging.{or_else_left, or_else_right, unless_true}
 use Rattle.rules.proofs.Tests.{and_left, and_right}
@@ -34,7 +33,7 @@ turned_not {r} {G} e = let z : ◌≡◌ {A = ℕ} 0 1 = cc in absurd (omega ari
 -- ---- a text that is accepted
 
 -- the buffers suffice where none is refused
-pub suffice : (L : Limits) (G : Graph) (d s c : ℕ) → after_lines_in L G d s c ≡ Judgement.Admitted → Suffice G d s c
+pub suffice : (L : Limits) (G : Graph) (d s c : ℕ) → after_lines_in L G d s c ≡ Ok tt → Suffice G d s c
 suffice L G d s c h =
     let a = leb (wide * suc G.checks) s in
     let b = leb (wide * G.entries) c in
@@ -53,8 +52,8 @@ accepted L t d s c G e = go (sheet_lines L t) refl e
   where
     end : (k : Pair) (ps : List Pair) → sheet_lines L t ≡ lines k ps → (j : Judged) → after_lines_in L (graph_in k ps) d s c ≡ j
         → unless_refused j (graph_in k ps) ≡ graph G → AdmittedWithin L G × (t ≡ sheet_text G) × Suffice G d s c
-    end k ps x (Judgement.Refused r) p q = absurd (turned_not q)
-    end k ps x Judgement.Admitted p q =
+    end k ps x (Err r) p q = absurd (turned_not q)
+    end k ps x (Ok _) p q =
         let H : Graph = graph_in k ps in
         let told = sheet_told L t k ps x in
         let degrees = or_else_left (degrees_judged L H) (unless (room_for H s c) Buffer) (or_else_right (unless (room_for_degrees H d) Buffer) (after_lines L H s c) p) in

@@ -1,4 +1,5 @@
 -- Entries in order: what the tests of an entry mean.
+use Rattle.std.specs.Prelude.{Ok}
 use mathlib.Core.Path.{◌≡◌, refl}
 use mathlib.Core.Bool.{Bool, true, false, ◌&&◌, ◌||◌}
 use mathlib.Core.List.{List}
@@ -8,7 +9,6 @@ use borrow.Author.Tests.{lt-ltb, le-leb, eq-eqb, ltb-true, ltb-false, leb-true, 
 use lib.Dec.{eqb, leb, ltb}
 use Rattle.refusals.specs.Refusals.{unless}
 use Rattle.refusals.specs.declared.Refusal.TheVariants.{Range, Order}
-use Rattle.refusals.specs.declared.Judged.TheVariants.{Admitted}
 use Rattle.refusals.proofs.Judging.{or_else_left, or_else_right, unless_true}
 use Rattle.rules.proofs.Tests.{and_left, and_right, and_both}
 use Rattle.texts.specs.Lines.{Pair}
@@ -46,11 +46,11 @@ not_before_told low p h = go (ltb low.first p.first) refl h
         (omega arith, λ _. leb-true low.second p.second (and_right (eqb low.first p.first) (leb low.second p.second) q))
 
 module _ (c low p : Pair) (l : ℕ) where
-  pub fits_judged : Fits c low p → entry_judged c l low p ≡ Admitted
+  pub fits_judged : Fits c low p → entry_judged c l low p ≡ Ok tt
   fits_judged f =
       rw (lt-ltb p.first c.second f.check, lt-ltb p.second c.first f.variable, not_before_lem low p f.from f.same)
 
-  pub judged_fits : entry_judged c l low p ≡ Admitted → Fits c low p
+  pub judged_fits : entry_judged c l low p ≡ Ok tt → Fits c low p
   judged_fits h =
       let a = ltb p.first c.second in
       let b = ltb p.second c.first in

@@ -1,4 +1,5 @@
 -- The first pass: numbers kept up to the cap are judged as they are.
+use Rattle.std.specs.Prelude.{Ok}
 use mathlib.Core.Path.{◌≡◌, ap₂}
 use mathlib.Core.Bool.{◌&&◌}
 use Prim.Native.Nat.{ℕ, ◌+◌, ◌≤◌, ◌<◌, min}
@@ -7,7 +8,6 @@ use native.Mathlib.Omega.{arith}
 use borrow.Author.Tests.{le-ltb, lt-leb}
 use lib.Dec.{leb, ltb}
 use Rattle.rules.specs.Graphs.{Limits, fewest_variables, fewest_checks}
-use Rattle.refusals.specs.declared.Judged.TheVariants as Judgement
 use Rattle.rules.proofs.Tests.{and_no}
 use Rattle.texts.specs.Lines.{Pair, pair}
 use Rattle.texts.specs.Places.{cap}
@@ -53,7 +53,7 @@ capped_counts L hn hm p a b ea eb = go (dec_lt p.first cap) (dec_lt p.second cap
 
 -- the place after an entry that was not refused, as the code keeps it
 pub after_capped : (c low : Pair) (l : ℕ) (p : Pair) (a b : ℕ) → c.first ≤ cap → c.second ≤ cap → a ≡ min p.first cap → b ≡ min p.second cap
-    → entry_judged c l low p ≡ Judgement.Admitted → after p ≡ pair a (b + 1)
+    → entry_judged c l low p ≡ Ok tt → after p ≡ pair a (b + 1)
 after_capped c low l p a b hn hm ea eb j =
     let f = judged_fits c low p l j in
     ap₂ pair (omega (arith, f.check)) (omega (arith, f.variable))

@@ -1,4 +1,5 @@
 -- The sheet of counts within limits and entries in order is read as these, and only such a sheet is read.
+use Rattle.std.specs.Prelude.{Ok}
 use mathlib.Core.Path.{◌≡◌, refl, sym, ap, ◌∙◌}
 use mathlib.Core.Bool.{◌&&◌}
 use mathlib.Core.List.{List, [], ◌∷◌, ◌++◌}
@@ -7,7 +8,6 @@ use borrow.Author.Tests.{le-leb, leb-true}
 use lib.Dec.{leb}
 use Rattle.rules.specs.Graphs.{Limits, fewest_variables, fewest_checks}
 use Rattle.refusals.specs.declared.Refusal.TheVariants.{Count}
-use Rattle.refusals.specs.declared.Judged.TheVariants.{Admitted}
 use Rattle.refusals.proofs.Judging.{unless_true}
 use Rattle.rules.proofs.Tests.{and_left, and_right}
 use Rattle.texts.specs.Lines.{Pair, line_text, lines_text}
@@ -50,7 +50,7 @@ rows_told c k l low t d qs e =
 -- ---- the whole sheet
 
 -- what the test of the counts asks
-pub counts_told : (L : Limits) (c : Pair) → (sheet_layout L).counts_judged c ≡ Admitted
+pub counts_told : (L : Limits) (c : Pair) → (sheet_layout L).counts_judged c ≡ Ok tt
     → ((fewest_variables ≤ c.first) × (c.first ≤ L.variables)) × ((fewest_checks ≤ c.second) × (c.second ≤ L.checks))
 counts_told L c e =
     let n = leb fewest_variables c.first in
@@ -63,7 +63,7 @@ counts_told L c e =
     )
 
 pub counts_fit_lem : (L : Limits) (c : Pair) → (fewest_variables ≤ c.first) × (c.first ≤ L.variables)
-    → (fewest_checks ≤ c.second) × (c.second ≤ L.checks) → (sheet_layout L).counts_judged c ≡ Admitted
+    → (fewest_checks ≤ c.second) × (c.second ≤ L.checks) → (sheet_layout L).counts_judged c ≡ Ok tt
 counts_fit_lem L c n m = rw (le-leb _ _ n.0, le-leb _ _ n.1, le-leb _ _ m.0, le-leb _ _ m.1)
 
 -- counts and entries that a sheet may have

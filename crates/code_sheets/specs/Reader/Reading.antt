@@ -1,17 +1,14 @@
 -- Document 01, 'Read a sheet', and document 02, item 9: the answer on any text, and every lent byte afterwards.
-use Rattle.std.specs.Prelude.{◌≡◌, Bool, ◌&&◌, cond, List, ◌++◌, ℕ, suc, ◌*◌, leb, length, drop}
+use Rattle.std.specs.Prelude.{◌≡◌, Bool, ◌&&◌, cond, List, ◌++◌, ℕ, suc, ◌*◌, leb, length, drop, Ok, Err, Result}
 use Rattle.words.specs.Roles.{wide}
 use Rattle.rules.specs.Graphs.{Graph, Limits, variable_degree}
-use Rattle.refusals.specs.Refusals.{unless, or_else}
+use Rattle.refusals.specs.Refusals.{unless, or_else, Judged}
 use Rattle.refusals.specs.declared.Refusal.{Refusal}
 use Rattle.refusals.specs.declared.Refusal.TheVariants.{Buffer}
-use Rattle.refusals.specs.declared.Judged.{Judged}
-use Rattle.refusals.specs.declared.Judged.TheVariants as Judgement
 use Rattle.words.specs.Words.{table}
 use Rattle.graphs.specs.Judging.{degrees_judged}
 use Rattle.code_sheets.specs.Text.Reading.{Lines, refused, lines, sheet_lines, graph_in}
-use Rattle.code_sheets.specs.declared.Sheet.{Sheet}
-use Rattle.code_sheets.specs.declared.Sheet.TheVariants as Answer
+use Rattle.code_sheets.specs.declared.Counts.{Counts}
 
 -- A refusal, or the graph that the text describes.
 pub data Reading : Type 0 where
@@ -35,8 +32,8 @@ abbrev pub after_lines_in : Limits → Graph → ℕ → ℕ → ℕ → Judged
 after_lines_in L G d s c = or_else (unless (room_for_degrees G d) Buffer) (after_lines L G s c)
 
 abbrev pub unless_refused : Judged → Graph → Reading
-unless_refused Judgement.Admitted G = graph G
-unless_refused (Judgement.Refused r) G = turned r
+unless_refused (Ok _) G = graph G
+unless_refused (Err r) G = turned r
 
 -- What the lines give, where `after` is what is refused after the last.
 abbrev pub read_lines : (Graph → Judged) → Lines → Reading
@@ -53,14 +50,18 @@ sheet_read L t s c = read_lines (λ G. after_lines L G s c) (sheet_lines L t)
 
 -- What is refused of it.
 abbrev pub read_judged : Reading → Judged
-read_judged (turned r) = Judgement.Refused r
-read_judged (graph G) = Judgement.Admitted
+read_judged (turned r) = Err r
+read_judged (graph G) = Ok tt
 
 -- ---- the answer, and the lists afterwards
 
+-- The counts of the sheet that was read, or the refusal.
+abbrev pub Sheet : Type 0
+Sheet = Result Counts Refusal
+
 abbrev pub answer_of : Reading → Sheet
-answer_of (turned r) = Answer.Refused r
-answer_of (graph G) = Answer.Read (record { variables = G.variables; checks = G.checks; entries = G.entries })
+answer_of (turned r) = Err r
+answer_of (graph G) = Ok (record { variables = G.variables; checks = G.checks; entries = G.entries })
 
 -- 'Two .. lists hold the graph: m+1 row starts, and E columns.' Bytes past them do not change.
 abbrev pub starts_of : Reading → List ℕ → List ℕ

@@ -1,18 +1,16 @@
 -- What the passes over the entries' lines, judged before, owe, and what follows them.
 use Rattle.std.specs.Prelude.{◌≡◌, cond, List, [], ◌++◌, ℕ, suc, ◌+◌, ◌-◌, ◌*◌, ◌≤◌, ◌<◌, leb, ltb, length, drop}
 use Rattle.rules.specs.Graphs.{Graph, limits, least_check_degree, variable_degree, between}
-use Rattle.refusals.specs.Refusals.{unless, each}
+use Rattle.refusals.specs.Refusals.{unless, each, Judged}
 use Rattle.refusals.specs.declared.Refusal.TheVariants.{Degree}
-use Rattle.refusals.specs.declared.Judged.{Judged}
 use Rattle.words.specs.Words.{table}
 use Rattle.graphs.specs.Judging.{check_degrees_judged}
 use Rattle.texts.specs.Lines.{Pair, pair}
 use Rattle.code_sheets.specs.Text.Reading.{Lines, refused, lines, rows, graph_in}
 use Rattle.code_sheets.specs.Text.Scanning.{counted, UpTo}
 use Rattle.code_sheets.specs.declared.Counts.{Counts}
-use Rattle.code_sheets.specs.Reader.Reading.{graph, unless_refused, starts_of, columns_of, ReadAs, after_lines_in, degrees_in}
+use Rattle.code_sheets.specs.Reader.Reading.{graph, unless_refused, starts_of, columns_of, ReadAs, after_lines_in, degrees_in, Sheet}
 use Rattle.code_sheets.specs.declared.Rows.{Rows}
-use Rattle.code_sheets.specs.declared.Sheet.{Sheet}
 
 -- The graph of the lines of a sheet.
 abbrev pub lines_graph : Lines → Graph

@@ -3,9 +3,8 @@
 use Rattle.std.specs.Prelude.{Bool, ◌&&◌, ◌||◌, List, [], ◌∷◌, ℕ, suc, ◌+◌, eqb, leb, ltb, length, get_or}
 use Rattle.rules.specs.Ranges.{one}
 use Rattle.rules.specs.Graphs.{Graph, Limits, fewest_variables, fewest_checks}
-use Rattle.refusals.specs.Refusals.{unless, or_else}
+use Rattle.refusals.specs.Refusals.{unless, or_else, Judged}
 use Rattle.refusals.specs.declared.Refusal.TheVariants.{Count, Range, Order}
-use Rattle.refusals.specs.declared.Judged.{Judged}
 use Rattle.texts.specs.Lines.{Pair, pair, line_text, line}
 use Rattle.texts.specs.Layouts.{EntryLines, Layout}
 use Rattle.texts.specs.Reading as Listing

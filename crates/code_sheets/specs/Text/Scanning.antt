@@ -1,12 +1,11 @@
 -- What the first pass owes: the lines as `sheet_lines` has them.
-use Rattle.std.specs.Prelude.{◌≡◌, List, ℕ, ◌≤◌}
+use Rattle.std.specs.Prelude.{◌≡◌, List, ℕ, ◌≤◌, Ok, Err, Result}
 use Rattle.rules.specs.Graphs.{Limits, limits}
 use Rattle.texts.specs.Lines.{Pair, pair}
 use Rattle.texts.specs.Scanning as Listing
 use Rattle.code_sheets.specs.Text.Reading.{Lines, refused, sheet_entries}
 use Rattle.code_sheets.specs.declared.Counts.{Counts}
-use Rattle.code_sheets.specs.declared.Scanned.{Scanned}
-use Rattle.code_sheets.specs.declared.Scanned.TheVariants as Scans
+use Rattle.refusals.specs.declared.Refusal.{Refusal}
 
 abbrev pub counted : Counts → Pair
 counted k = pair k.variables k.checks
@@ -31,10 +30,14 @@ pub record UpTo (k : Counts) (L : Limits) : Type 0 where
   pub checks : k.checks ≤ L.checks
   pub entries : k.entries ≤ L.entries
 
+-- The counts and the place of the first entry's line, or the first refusal of the lines.
+abbrev pub Scanned : Type 0
+Scanned = Result (Counts × ℕ) Refusal
+
 -- The lines x of the text s have these counts, and the entries' lines begin at `at`.
 abbrev pub LinesAt : Limits → List ℕ → Lines → Counts → ℕ → Type 0
 LinesAt L s x k at = Listing.LinesAt sheet_entries L.entries s x (counted k) k.entries at
 
 abbrev pub ScannedAs : Limits → List ℕ → Lines → Scanned → Type 0
-ScannedAs L s x (Scans.Refused r) = x ≡ refused r
-ScannedAs L s x (Scans.Lines k at) = LinesAt L s x k at
+ScannedAs L s x (Err r) = x ≡ refused r
+ScannedAs L s x (Ok (k, at)) = LinesAt L s x k at

@@ -1,15 +1,12 @@
 -- Document 01, 'Write a sheet', and document 02, item 9: the answer on any graph, and every lent byte afterwards.
-use Rattle.std.specs.Prelude.{◌≡◌, List, ◌++◌, ℕ, leb, length, drop}
+use Rattle.std.specs.Prelude.{◌≡◌, List, ◌++◌, ℕ, leb, length, drop, Ok, Err, Result}
 use Rattle.rules.specs.Graphs.{Graph, limits}
-use Rattle.refusals.specs.Refusals.{unless, or_else}
+use Rattle.refusals.specs.Refusals.{unless, or_else, Judged}
 use Rattle.refusals.specs.declared.Refusal.TheVariants.{Buffer}
-use Rattle.refusals.specs.declared.Judged.{Judged}
-use Rattle.refusals.specs.declared.Judged.TheVariants as Judgement
 use Rattle.graphs.specs.Judging.{countable, graph_judged_in}
 use Rattle.graphs.specs.Degrees.{degrees_in}
 use Rattle.code_sheets.specs.Text.Texts.{sheet_text}
-use Rattle.code_sheets.specs.declared.Written.{Written}
-use Rattle.code_sheets.specs.declared.Written.TheVariants as Answer
+use Rattle.refusals.specs.declared.Refusal.{Refusal}
 
 -- 'Write a sheet: the graph's .., then 6', where g is what is found of the graph and a buffer of so many bytes is lent.
 unfoldable pub write_judged : Judged → Graph → ℕ → Judged
@@ -19,15 +16,19 @@ write_judged g G room = or_else g (unless (leb (length (sheet_text G)) room) Buf
 abbrev pub write_finds : Graph → ℕ → ℕ → Judged
 write_finds G d room = write_judged (graph_judged_in limits G d) G room
 
+-- The length of the text that was written, or the refusal.
+abbrev pub Written : Type 0
+Written = Result ℕ Refusal
+
 -- 'The writer gives this text and its length.'
 abbrev pub write_answer : Judged → Graph → Written
-write_answer Judgement.Admitted G = Answer.Length (length (sheet_text G))
-write_answer (Judgement.Refused r) G = Answer.Refused r
+write_answer (Ok _) G = Ok (length (sheet_text G))
+write_answer (Err r) G = Err r
 
 -- The lent bytes: the text in front, and those past it unchanged; all unchanged after a refusal.
 abbrev pub written_in : Judged → Graph → List ℕ → List ℕ
-written_in Judgement.Admitted G old = sheet_text G ++ drop (length (sheet_text G)) old
-written_in (Judgement.Refused r) G old = old
+written_in (Ok _) G old = sheet_text G ++ drop (length (sheet_text G)) old
+written_in (Err r) G old = old
 
 -- What is refused, and the list of degrees before and after.
 pub record JudgesWrite (G : Graph) (room : ℕ) (r : Judged) (d d' : List ℕ) : Type 0 where

@@ -1,5 +1,6 @@
 -- What is promised of the two heads.
-use mathlib.Core.Path.{◌≡◌, refl, sym, ap, ap₂, ◌∙◌}
+use Rattle.std.specs.Prelude.{Ok, Err}
+use mathlib.Core.Path.{◌≡◌, refl, sym, ap, ◌∙◌}
 use mathlib.Core.Bool.{Bool}
 use mathlib.Core.List.{List}
 use Prim.Native.Nat.{ℕ, ◌+◌, ◌≤◌}
@@ -10,7 +11,6 @@ use Rattle.rules.specs.Sequence.{bit_at, final, report}
 use Rattle.rules.specs.Symmetry.{Symmetric}
 use Rattle.refusals.specs.Refusals.{unless, or_else}
 use Rattle.rules.specs.Levels.{largest}
-use Rattle.refusals.specs.declared.Judged.TheVariants as Judgement
 use Rattle.refusals.specs.declared.Refusal.{Refusal}
 use Rattle.refusals.specs.declared.Refusal.TheVariants as Refusals
 use Rattle.rules.specs.declared.Report.{Report}
@@ -18,14 +18,12 @@ use Rattle.rules.proofs.Stops.{run_stops}
 use Rattle.graphs.specs.Judging.{graph_judged_in}
 use Rattle.settings.specs.Reversal.{Bytes}
 use Rattle.decoding.specs.declared.Room.{Room}
-use Rattle.decoding.specs.declared.Decoded.TheVariants.{Ran}
 use Rattle.decoding.specs.Decoding.{Frame, Memory, room_of, enough, filled, graph, levels, scheme, offsets_of, lifting_of, decode_judged, decode_finds}
 use Rattle.decoding.specs.Symmetry.{reversed_by, Accepted}
 use Rattle.decoding.proofs.Accepting.{frame_passed, asked_told, limit_small, memory_told}
 use Rattle.decoding.proofs.Twinning.{judged_kept, demand3}
 use Rattle.decoding.specs.declared.Party.{Party}
 use Rattle.decoding.specs.declared.Party.TheVariants.{First, Second, Pair}
-use Rattle.decoding.specs.declared.Paired.TheVariants as Answer
 use Rattle.decoding.specs.Pairing.Grants.{grant, half_up, half_down}
 use Rattle.decoding.specs.Pairing.Pairs.{Heads, alone, report_with, memory_with, head_report, head_memory, Found, admitted, refused, found_of, allowance_judged, first_frame, second_frame, pair_finds, first_report, second_report, pair_answer, first_after, second_after, DecodesPair}
 use Rattle.decoding.specs.Pairing.Theorems.{HeadsApart, HeadTurned, ReversedHeads, EnoughForBoth, LargestAllowance}
@@ -35,20 +33,24 @@ use Rattle.decoding.proofs.Pairing.Finding.{all_told}
 
 -- ---- a head depends on the other only through its count
 
-pub ran_told : (P : Heads) (f : Found) {r r₂ : Report} → Answer.Ran r r₂ ≡ pair_answer P f → (f ≡ admitted) × (r ≡ first_report P) × (r₂ ≡ second_report P)
-ran_told P admitted h = (refl, cc, cc)
+pub ran_told : (P : Heads) (f : Found) {r r₂ : Report} → Ok (r, r₂) ≡ pair_answer P f → (f ≡ admitted) × (r ≡ first_report P) × (r₂ ≡ second_report P)
+ran_told P admitted {r} {r₂} h =
+    let both : (r, r₂) ≡ (first_report P, second_report P) = cc in
+    (refl, ap (λ (z : Report × Report). z.0) both, ap (λ (z : Report × Report). z.1) both)
 ran_told P (refused p x) h = let z : ◌≡◌ {A = ℕ} 0 1 = cc in absurd (omega arith)
 
-pub refused_told : (P : Heads) (f : Found) {p : Party} {r : Refusal} → Answer.Refused p r ≡ pair_answer P f → f ≡ refused p r
+pub refused_told : (P : Heads) (f : Found) {p : Party} {r : Refusal} → Err (p, r) ≡ pair_answer P f → f ≡ refused p r
 refused_told P admitted h = let z : ◌≡◌ {A = ℕ} 0 1 = cc in absurd (omega arith)
-refused_told P (refused q x) h = ap₂ refused (cc) (cc)
+refused_told P (refused q x) {p} {r} h =
+    let both : (q, x) ≡ (p, r) = cc in
+    ap (λ (z : Party × Refusal). refused z.0 z.1) both
 
 -- what is made of T, the head's own frame and the other's count
 agreeing : {A : Type 0} (make : ℕ → Frame → ℕ → A) {T T' : ℕ} {F F' : Frame} {o o' : ℕ} → F' ≡ F → T' ≡ T → o' ≡ o → make T' F' o' ≡ make T F o
 agreeing make {T} {T'} {F} {F'} {o} {o'} f t e = ap (λ (k : ℕ). make k F' o') t ∙ ap (λ (x : Frame). make T x o') f ∙ ap (make T F) e
 
 -- what a call that refuses nothing gives
-call_told : (P : Heads) (M N : Memory) (d : List ℕ) {M₁ N₁ : Memory} {d₁ : List ℕ} {r r₂ : Report} → DecodesPair P M M₁ N N₁ d d₁ (Answer.Ran r r₂)
+call_told : (P : Heads) (M N : Memory) (d : List ℕ) {M₁ N₁ : Memory} {d₁ : List ℕ} {r r₂ : Report} → DecodesPair P M M₁ N N₁ d d₁ (Ok (r, r₂))
     → (r ≡ first_report P) × (r₂ ≡ second_report P) × (M₁ ≡ first_after P admitted M) × (N₁ ≡ second_after P admitted N)
 call_told P M N d w =
     let a = ran_told P (pair_finds P (length d) (room_of M) (room_of N)) w.answer in
@@ -115,13 +117,13 @@ module _ (half T : ℕ) (F : Frame) (other : ℕ) (l : alone F + other ≤ T) wh
 
 pub enough_for_both : EnoughForBoth
 enough_for_both P l = record {
-  first_report = ap Ran (decoded_alone (half_up P.allowance) P.allowance (first_frame P) (alone (second_frame P)) l);
+  first_report = ap Ok (decoded_alone (half_up P.allowance) P.allowance (first_frame P) (alone (second_frame P)) l);
   first_memory = filled_alone (half_up P.allowance) P.allowance (first_frame P) (alone (second_frame P)) l;
-  second_report = ap Ran (decoded_alone (half_down P.allowance) P.allowance (second_frame P) (alone (first_frame P)) (omega arith));
+  second_report = ap Ok (decoded_alone (half_down P.allowance) P.allowance (second_frame P) (alone (first_frame P)) (omega arith));
   second_memory = filled_alone (half_down P.allowance) P.allowance (second_frame P) (alone (first_frame P)) (omega arith);
 }
 
-pub taken_small : (F : Frame) (d : ℕ) (m : Room) → decode_finds F d m ≡ Judgement.Admitted → alone F ≤ 255
+pub taken_small : (F : Frame) (d : ℕ) (m : Room) → decode_finds F d m ≡ Ok tt → alone F ≤ 255
 taken_small F d m h =
     let g = graph_judged_in limits (graph F) d in
     omega (arith, (run_stops (graph F) (scheme F) F.asked.limit).within, limit_small F (asked_told F (frame_passed F g (memory_told F g m h).0).1).1)

@@ -1,10 +1,8 @@
 -- Document 02, item 7: a pair of frames, what is refused of it, what is answered, and every lent byte afterwards.
-use Rattle.std.specs.Prelude.{◌≡◌, List, ℕ, length}
+use Rattle.std.specs.Prelude.{◌≡◌, List, ℕ, length, Ok, Err, Result}
 use Rattle.rules.specs.Graphs.{Graph, limits, between}
 use Rattle.rules.specs.Sequence.{stop, final, report}
-use Rattle.refusals.specs.Refusals.{unless}
-use Rattle.refusals.specs.declared.Judged.{Judged}
-use Rattle.refusals.specs.declared.Judged.TheVariants as Judgement
+use Rattle.refusals.specs.Refusals.{unless, Judged}
 use Rattle.refusals.specs.declared.Refusal.{Refusal}
 use Rattle.refusals.specs.declared.Refusal.TheVariants as Refusals
 use Rattle.rules.specs.declared.Report.{Report}
@@ -14,16 +12,21 @@ use Rattle.graphs.specs.Degrees.{degrees_in}
 use Rattle.settings.specs.declared.Parameters.{Parameters}
 use Rattle.settings.specs.declared.Settings.{Settings}
 use Rattle.settings.specs.Settings.{settings}
+use Rattle.decoding.specs.declared.Heads as Lent
 use Rattle.decoding.specs.declared.Room.{Room}
 use Rattle.decoding.specs.Decoding.{Frame, Memory, room_of, filled, graph, levels, scheme, decode_finds}
 use Rattle.decoding.specs.Frames.{frame}
 use Rattle.decoding.specs.declared.Party.{Party}
 use Rattle.decoding.specs.declared.Party.TheVariants.{First, Second, Pair}
-use Rattle.decoding.specs.declared.Paired.{Paired}
-use Rattle.decoding.specs.declared.Paired.TheVariants as Answer
-use Rattle.decoding.specs.declared.CheckedPair.{CheckedPair}
-use Rattle.decoding.specs.declared.CheckedPair.TheVariants as Checks
 use Rattle.decoding.specs.Pairing.Grants.{grant, half_up, half_down}
+
+-- The reports of the first and the second head, or whose refusal it is and the refusal.
+abbrev pub Paired : Type 0
+Paired = Result (Report × Report) (Party × Refusal)
+
+-- The settings of both, or the same.
+abbrev pub CheckedPair : Type 0
+CheckedPair = Result (Settings × Settings) (Party × Refusal)
 
 -- What one head reads, and what is asked of its run.
 pub record Head : Type 0 where
@@ -48,6 +51,11 @@ heads n starts columns T values asked values' asked' = record {
   first = record { values = values; asked = asked };
   second = record { values = values'; asked = asked' };
 }
+
+-- The heads that are lent.
+abbrev pub heads_lent : Lent.Heads → Heads
+heads_lent h =
+    heads h.graph.variables h.graph.starts.now h.graph.columns.now h.allowance h.first.values.now h.first.asked h.second.values.now h.second.asked
 
 -- 'What each would take alone under its limit': the iteration count of decode's report.
 abbrev pub alone : Frame → ℕ
@@ -74,8 +82,8 @@ pub data Found : Type 0 where
 
 -- What is refused of a party, else what is found of those after it.
 abbrev pub found_of : Party → Judged → Found → Found
-found_of p Judgement.Admitted rest = rest
-found_of p (Judgement.Refused r) rest = refused p r
+found_of p (Ok _) rest = rest
+found_of p (Err r) rest = refused p r
 
 -- '22, T outside 2 to 510.'
 abbrev pub allowance_judged : ℕ → Judged
@@ -83,8 +91,8 @@ allowance_judged T = unless (between 2 T 510) Refusals.Allowance
 
 -- The settings of both heads, where nothing is refused.
 abbrev pub checked_pair : Found → Settings → Settings → CheckedPair
-checked_pair admitted s s' = Checks.Good s s'
-checked_pair (refused p r) s s' = Checks.Refused p r
+checked_pair admitted s s' = Ok (s, s')
+checked_pair (refused p r) s s' = Err (p, r)
 
 module _ (P : Heads) where
   abbrev pub graph_of_both : Graph
@@ -115,8 +123,8 @@ module _ (P : Heads) where
 
   -- The answer, and the memory of each head afterwards: a refusal changes no byte of either.
   abbrev pub pair_answer : Found → Paired
-  pair_answer admitted = Answer.Ran first_report second_report
-  pair_answer (refused p r) = Answer.Refused p r
+  pair_answer admitted = Ok (first_report, second_report)
+  pair_answer (refused p r) = Err (p, r)
 
   abbrev pub first_after : Found → Memory → Memory
   first_after admitted M = head_memory (half_up P.allowance) P.allowance first_frame (alone second_frame) M

@@ -1,17 +1,14 @@
 -- Document 02, item 7: what is promised of the two heads, over the very definitions in the contract of decoding a pair.
-use Rattle.std.specs.Prelude.{◌≡◌, Bool, List, ℕ, ◌+◌, ◌≤◌, ◌<◌}
+use Rattle.std.specs.Prelude.{◌≡◌, Bool, List, ℕ, ◌+◌, ◌≤◌, ◌<◌, Ok}
 use Rattle.std.specs.Bool.{xor}
 use Rattle.rules.specs.Graphs.{Codeword}
 use Rattle.rules.specs.Sequence.{bit_at, final}
 use Rattle.rules.specs.Symmetry.{Mirrored}
-use Rattle.refusals.specs.declared.Judged.TheVariants as Judgement
 use Rattle.rules.specs.declared.Report.{Report}
 use Rattle.settings.specs.Reversal.{Bytes, reversed}
 use Rattle.decoding.specs.declared.Room.{Room}
-use Rattle.decoding.specs.declared.Decoded.TheVariants.{Ran}
 use Rattle.decoding.specs.Decoding.{Frame, Memory, graph, scheme, decoded, memory_after}
 use Rattle.decoding.specs.Symmetry.{reversed_by, Accepted}
-use Rattle.decoding.specs.declared.Paired.TheVariants as Answer
 use Rattle.decoding.specs.Pairing.Grants.{grant, half_up, half_down}
 use Rattle.decoding.specs.Pairing.Pairs.{Heads, alone, head_report, head_memory, admitted, graph_of_both, first_frame, second_frame, pair_finds, first_report, second_report, first_after, second_after, DecodesPair}
 
@@ -19,10 +16,10 @@ use Rattle.decoding.specs.Pairing.Pairs.{Heads, alone, head_report, head_memory,
 -- which agree on a head's own frame and memory, on T and on the other's count, both give that head the same report and leave it the same bytes.
 pub record HeadsApart : Type 0 where
   pub first : (P P' : Heads) (M M₁ M₁' N N₁ N' N₁' : Memory) (d d₁ d' d₁' : List ℕ) (r r₂ r' r₂' : Report)
-      → DecodesPair P M M₁ N N₁ d d₁ (Answer.Ran r r₂) → DecodesPair P' M M₁' N' N₁' d' d₁' (Answer.Ran r' r₂')
+      → DecodesPair P M M₁ N N₁ d d₁ (Ok (r, r₂)) → DecodesPair P' M M₁' N' N₁' d' d₁' (Ok (r', r₂'))
       → first_frame P' ≡ first_frame P → P'.allowance ≡ P.allowance → alone (second_frame P') ≡ alone (second_frame P) → (r' ≡ r) × (M₁' ≡ M₁)
   pub second : (P P' : Heads) (M M₁ M' M₁' N N₁ N₁' : Memory) (d d₁ d' d₁' : List ℕ) (r r₂ r' r₂' : Report)
-      → DecodesPair P M M₁ N N₁ d d₁ (Answer.Ran r r₂) → DecodesPair P' M' M₁' N N₁' d' d₁' (Answer.Ran r' r₂')
+      → DecodesPair P M M₁ N N₁ d d₁ (Ok (r, r₂)) → DecodesPair P' M' M₁' N N₁' d' d₁' (Ok (r', r₂'))
       → second_frame P' ≡ second_frame P → P'.allowance ≡ P.allowance → alone (first_frame P') ≡ alone (first_frame P) → (r₂' ≡ r₂) × (N₁' ≡ N₁)
 
 -- A head with the frame F and its `half` of T, beside a head with the frame O and `half'`, where the values of F are reversed by c.
@@ -73,10 +70,10 @@ ReversedHeads = (P : Heads) (c : ℕ → Bool) → PairTwins P c
 
 -- Each head gets what decode gives it: report and every lent byte.
 pub record AsAlone (P : Heads) : Type 0 where
-  pub first_report : Ran (first_report P) ≡ decoded (first_frame P) Judgement.Admitted
-  pub first_memory : (M : Memory) → first_after P admitted M ≡ memory_after (first_frame P) Judgement.Admitted M
-  pub second_report : Ran (second_report P) ≡ decoded (second_frame P) Judgement.Admitted
-  pub second_memory : (M : Memory) → second_after P admitted M ≡ memory_after (second_frame P) Judgement.Admitted M
+  pub first_report : Ok (first_report P) ≡ decoded (first_frame P) (Ok tt)
+  pub first_memory : (M : Memory) → first_after P admitted M ≡ memory_after (first_frame P) (Ok tt) M
+  pub second_report : Ok (second_report P) ≡ decoded (second_frame P) (Ok tt)
+  pub second_memory : (M : Memory) → second_after P admitted M ≡ memory_after (second_frame P) (Ok tt) M
 
 -- It does where the allowance is enough for both, and so with T = 510.
 abbrev pub EnoughForBoth : Type 0

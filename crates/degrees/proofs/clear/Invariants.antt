@@ -1,9 +1,5 @@
-use Prim.Native.Nat.{◌-◌, ◌≤◌}
 use Rattle.words.proofs.Filling.{Filled}
 use Rattle.degrees.proofs.clear.Given as goal
 
 abbrev pub invariant-loop-v : goal.invariant-loop-v
-invariant-loop-v l = (l.v ≤ l.n) × Filled 4 (λ _. 0) l.initial.degrees l.degrees l.v
-
-abbrev pub decreases-loop-v : goal.decreases-loop-v
-decreases-loop-v l = l.n - l.v
+invariant-loop-v l = Filled 4 (λ _. 0) l.initial.degrees l.degrees l.v

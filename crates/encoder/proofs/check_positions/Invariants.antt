@@ -1,5 +1,3 @@
-use Prim.Native.Nat.{◌-◌, ◌/◌, ◌≤◌}
-use lib.ListN.{length}
 use Rattle.refusals.specs.declared.Refusal.TheVariants.{Positions}
 use Rattle.refusals.proofs.Judging.{Passed}
 use Rattle.words.specs.Roles.{position_at}
@@ -7,7 +5,4 @@ use Rattle.codewords.specs.Encoding.{position_fits}
 use Rattle.encoder.proofs.check_positions.Given as goal
 
 abbrev pub invariant-loop-k : goal.invariant-loop-k
-invariant-loop-k l = (l.k ≤ length l.positions / 2) × Passed (position_fits l.n (position_at l.positions)) (λ i. Positions) l.k
-
-abbrev pub decreases-loop-k : goal.decreases-loop-k
-decreases-loop-k l = length l.positions / 2 - l.k
+invariant-loop-k l = Passed (position_fits l.n (position_at l.positions)) (λ i. Positions) l.k

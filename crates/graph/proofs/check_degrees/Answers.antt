@@ -1,38 +1,29 @@
-use mathlib.Core.Path.{◌≡◌, sym, ◌∙◌}
+use mathlib.Core.Path.{sym}
 use native.Mathlib.Omega.{arith}
 use native.Mathlib.Numerals.{add-one}
-use borrow.Author.Rules.{rules}
-use Rattle.rules.specs.Graphs.{limits}
 use Rattle.refusals.proofs.Judging.{passed_none, passed_more, passed_all, failed_at}
-use Rattle.words.specs.Roles.{graph_of}
+use Rattle.words.specs.Roles.{graph_lent}
+use Rattle.rules.specs.Graphs.{limits}
 use Rattle.graphs.specs.Judging.{check_degrees_judged}
-use Rattle.graphs.proofs.Parts.{starts_told, check_test}
+use Rattle.graphs.proofs.Parts.{starts_told}
 use Rattle.shape.proofs.Loops.{check_test_lem}
 use Rattle.graph.proofs.check_degrees.Goals as goal
 
 pub loop-i-init : goal.loop-i-init
-loop-i-init c = (search rules, passed_none)
+loop-i-init c = passed_none
 
 pub overflow_sub-start : goal.overflow_sub-start
-overflow_sub-start c =
-    omega (
-      arith,
-      (starts_told _ c.requires).rises c.loop-i.i
-          (omega arith),
-      rw add-one at c.start.ensures.0,
-    )
+overflow_sub-start c = omega (arith, (starts_told _ c.requires).rises c.loop-i.i (omega arith), rw add-one at c.start.ensures.0)
 
 pub returns-then-not-in_range : goal.returns-then-not-in_range
 unfolding check_degrees_judged
 returns-then-not-in_range c =
-    let test : check_test limits (graph_of c.args.n c.args.starts.now c.args.columns.now) c.loop-i.i ≡ c.in_range.result = check_test_lem limits (graph_of c.args.n c.args.starts.now c.args.columns.now) c.loop-i.i c.start-in-loop-i.ensures.0 c.start.ensures.0 c.in_range.ensures in
-    sym (failed_at c.loop-i.invariant.1 (test ∙ c.if-not-in_range.true) (omega arith))
+    sym (failed_at c.loop-i.invariant (check_test_lem limits (graph_lent c.args.graph) c.loop-i.i c.start-in-loop-i.ensures.0 c.start.ensures.0 c.in_range.ensures c.if-not-in_range.true) (omega arith))
 
 pub loop-i-preserved : goal.loop-i-preserved
 loop-i-preserved c =
-    let test : check_test limits (graph_of c.args.n c.args.starts.now c.args.columns.now) c.loop-i.i ≡ c.in_range.result = check_test_lem limits (graph_of c.args.n c.args.starts.now c.args.columns.now) c.loop-i.i c.start-in-loop-i.ensures.0 c.start.ensures.0 c.in_range.ensures in
-    (search rules, passed_more c.loop-i.invariant.1 (test ∙ c.if-not-in_range.false))
+    passed_more c.loop-i.invariant (check_test_lem limits (graph_lent c.args.graph) c.loop-i.i c.start-in-loop-i.ensures.0 c.start.ensures.0 c.in_range.ensures c.if-not-in_range.false)
 
 pub returns : goal.returns
 unfolding check_degrees_judged
-returns c = sym (passed_all c.loop-i.invariant.1 (omega arith))
+returns c = sym (passed_all c.loop-i.invariant (omega arith))

@@ -1,20 +1,22 @@
-use mathlib.Core.Path.{sym, ◌∙◌}
+use Rattle.words.specs.Roles.{graph_lent}
+use borrow.Author.Rules.{rules}
+use mathlib.Core.Path.{sym}
 use native.Mathlib.Omega.{arith}
 use Rattle.graphs.proofs.Lending.{lent_admitted}
 use Rattle.graph.proofs.Calls.{odd_graph, odd_length, odd_bit, odd_counted}
 use Rattle.graph.proofs.count_odd.Goals as goal
 
-pub returns-in-Refused : goal.returns-in-Refused
-returns-in-Refused c = odd_graph _ _ c.check-j.ensures c.in-Refused.is
+pub returns-in_err-check : goal.returns-in_err-check
+returns-in_err-check c = search (rules, odd_graph (graph_lent c.args.graph) c.args.bits.now c.in_err-check.ensures)
 
-pub returns-then-bits-n : goal.returns-then-bits-n
-returns-then-bits-n c = odd_length _ _ c.check-j.ensures c.in_default.is c.if-bits-n.true
+pub returns-then-bits-graph : goal.returns-then-bits-graph
+returns-then-bits-graph c = odd_length _ _ c.in_ok-check.ensures c.if-bits-graph.true
 
-pub returns-in-Refused-j : goal.returns-in-Refused-j
-returns-in-Refused-j c = odd_bit _ _ c.check-j.ensures c.in_default.is c.if-bits-n.false c.check_bits-j.ensures c.in-Refused-j.is
+pub returns-in_err-check_bits : goal.returns-in_err-check_bits
+returns-in_err-check_bits c = search (rules, odd_bit (graph_lent c.args.graph) c.args.bits.now c.in_ok-check.ensures c.if-bits-graph.false c.in_err-check_bits.ensures)
 
 pub odd_checks-requires : goal.odd_checks-requires
-odd_checks-requires c = (lent_admitted _ _ (sym c.check-j.ensures.answer ∙ c.in_default.is), omega arith)
+odd_checks-requires c = (lent_admitted _ _ (sym c.in_ok-check.ensures.answer), omega arith)
 
 pub returns : goal.returns
-returns c = odd_counted _ _ c.check-j.ensures c.in_default.is c.if-bits-n.false c.check_bits-j.ensures c.in_default-j.is c.odd_checks.ensures
+returns c = odd_counted _ _ c.in_ok-check.ensures c.if-bits-graph.false c.in_ok-check_bits.ensures c.odd_checks.ensures

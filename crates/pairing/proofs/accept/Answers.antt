@@ -1,29 +1,41 @@
 use native.Mathlib.Omega.{arith}
-use Rattle.decoding.specs.Pairing.Pairs.{Heads, heads}
-use Rattle.pairing.proofs.Deciding.{refused_first, graph_admitted, refused_second, refused_pair, accepted_both}
+use Rattle.std.proofs.Common.{rules}
+use Rattle.std.proofs.lemmas.Result.{err_from_is_err_and}
+use Rattle.decoding.specs.Pairing.Pairs.{heads_lent}
+use Rattle.pairing.proofs.Deciding.{mapped_ok, mapped_err, refused_first, graph_admitted, refused_second, refused_pair, accepted_both}
 use Rattle.pairing.proofs.accept.Goals as goal
 
-pub accept_on-c-requires : goal.accept_on-c-requires
-accept_on-c-requires c =
-    let P : Heads = let a = c.args in heads a.n a.starts.now a.columns.now a.allowance a.first_values.now a.first_asked a.second_values.now a.second_asked in
-    omega (arith, (graph_admitted P c.args.first_room c.args.second_room c.accept-c.ensures c.in-Good.is).variables)
+pub returns-in_err-first : goal.returns-in_err-first
+returns-in_err-first c =
+    let a = c.args in
+    let p = err_from_is_err_and c.from_residual.result c.from_residual.ensures.1 in
+    let m = mapped_err _ c.accept-first.result (λ e y q. search rules) c.map_err.ensures.cases c.in_err-first.was in
+    rw (p.1, p.2, m.1) (refused_first (heads_lent a.heads) a.first_room a.second_room c.accept-first.ensures m.0)
 
-pub returns-then-in_range : goal.returns-then-in_range
-returns-then-in_range c =
-    let P : Heads = let a = c.args in heads a.n a.starts.now a.columns.now a.allowance a.first_values.now a.first_asked a.second_values.now a.second_asked in
-    accepted_both P c.args.first_room c.args.second_room c.accept-c.ensures c.in-Good.is c.accept_on-c.ensures c.in-Good-c.is c.in_range.ensures c.if-in_range.true
+pub accept_on-second-requires : goal.accept_on-second-requires
+accept_on-second-requires c =
+    let a = c.args in
+    let first = mapped_ok _ c.accept-first.result c.map_err.ensures.cases c.in_ok-first.was in
+    omega (arith, (graph_admitted (heads_lent a.heads) a.first_room a.second_room c.accept-first.ensures first).variables)
 
-pub returns-in-Refused : goal.returns-in-Refused
-returns-in-Refused c =
-    let P : Heads = let a = c.args in heads a.n a.starts.now a.columns.now a.allowance a.first_values.now a.first_asked a.second_values.now a.second_asked in
-    refused_first P c.args.first_room c.args.second_room c.accept-c.ensures c.in-Refused.is
+pub returns-in_err-second : goal.returns-in_err-second
+returns-in_err-second c =
+    let a = c.args in
+    let p = err_from_is_err_and c.from_residual-in_err-second.result c.from_residual-in_err-second.ensures.1 in
+    let first = mapped_ok _ c.accept-first.result c.map_err.ensures.cases c.in_ok-first.was in
+    let m = mapped_err _ c.accept_on-second.result (λ e y q. search rules) c.map_err-2.ensures.cases c.in_err-second.was in
+    rw (p.1, p.2, m.1) (refused_second (heads_lent a.heads) a.first_room a.second_room c.accept-first.ensures first c.accept_on-second.ensures m.0)
 
-pub returns-in-Refused-c : goal.returns-in-Refused-c
-returns-in-Refused-c c =
-    let P : Heads = let a = c.args in heads a.n a.starts.now a.columns.now a.allowance a.first_values.now a.first_asked a.second_values.now a.second_asked in
-    refused_second P c.args.first_room c.args.second_room c.accept-c.ensures c.in-Good.is c.accept_on-c.ensures c.in-Refused-c.is
+pub returns-then-not-in_range : goal.returns-then-not-in_range
+returns-then-not-in_range c =
+    let a = c.args in
+    let first = mapped_ok _ c.accept-first.result c.map_err.ensures.cases c.in_ok-first.was in
+    let second = mapped_ok _ c.accept_on-second.result c.map_err-2.ensures.cases c.in_ok-second.was in
+    refused_pair (heads_lent a.heads) a.first_room a.second_room c.accept-first.ensures first c.accept_on-second.ensures second c.in_range.ensures c.if-not-in_range.true
 
-pub returns-else-in_range : goal.returns-else-in_range
-returns-else-in_range c =
-    let P : Heads = let a = c.args in heads a.n a.starts.now a.columns.now a.allowance a.first_values.now a.first_asked a.second_values.now a.second_asked in
-    refused_pair P c.args.first_room c.args.second_room c.accept-c.ensures c.in-Good.is c.accept_on-c.ensures c.in-Good-c.is c.in_range.ensures c.if-in_range.false
+pub returns : goal.returns
+returns c =
+    let a = c.args in
+    let first = mapped_ok _ c.accept-first.result c.map_err.ensures.cases c.in_ok-first.was in
+    let second = mapped_ok _ c.accept_on-second.result c.map_err-2.ensures.cases c.in_ok-second.was in
+    accepted_both (heads_lent a.heads) a.first_room a.second_room c.accept-first.ensures first c.accept_on-second.ensures second c.in_range.ensures c.if-not-in_range.false

@@ -1,40 +1,21 @@
-use mathlib.Core.Path.{sym, ◌∙◌}
+use mathlib.Core.Path.{sym, ap, ◌∙◌}
 use native.Mathlib.Omega.{arith}
-use lib.Ieee.{of_bits, of_int}
-use Rattle.pausing.specs.Pausing.{Asked, asked}
-use Rattle.pausing.proofs.Pausing.{graph_refused, graph_good, settings_refused, memory_refused, all_accepted}
+use Rattle.std.proofs.lemmas.Result.{err_from_is_err_and}
+use Rattle.words.specs.Roles.{graph_lent}
+use Rattle.settings.specs.Settings.{settings_of}
+use Rattle.pausing.proofs.Pausing.{graph_good, settings_refused, memory_refused, all_accepted}
 use Rattle.pausing.proofs.accept.Goals as goal
 
-pub shape_of-degrees-in-Refused : goal.shape_of-degrees-in-Refused
-shape_of-degrees-in-Refused c = c.check-j.auto.degrees
-
-pub returns-in-Refused : goal.returns-in-Refused
-returns-in-Refused c =
-    let A : Asked = asked c.args.n c.args.starts.now c.args.columns.now c.args.settings c.args.count in
-    graph_refused A c.args.room c.check-j.ensures c.in-Refused.is
-
-pub shape_of-degrees-in_default-c : goal.shape_of-degrees-in_default-c
-shape_of-degrees-in_default-c c = c.check-j.auto.degrees
-
-pub returns-in_default-c : goal.returns-in_default-c
-unfolding of_bits of_int
-returns-in_default-c c =
-    let A : Asked = asked c.args.n c.args.starts.now c.args.columns.now c.args.settings c.args.count in
-    settings_refused A c.args.room c.check-j.ensures c.in_default.is c.check_settings-c.ensures c.in_default-c.is
+pub returns-in_err-settings : goal.returns-in_err-settings
+returns-in_err-settings c =
+    let p = err_from_is_err_and c.from_residual-in_err-settings.result c.from_residual-in_err-settings.ensures.1 in
+    rw (p.1, p.2) (settings_refused (graph_lent c.args.graph) c.args.settings c.args.room c.check.ensures c.in_ok-check.was (c.check_settings.ensures ∙ ap settings_of c.scaled.ensures) c.in_err-settings.was)
 
 pub long_enough-requires : goal.long_enough-requires
-long_enough-requires c =
-    let A : Asked = asked c.args.n c.args.starts.now c.args.columns.now c.args.settings c.args.count in
-    omega (arith, (graph_good A c.args.room c.check-j.ensures c.in_default.is).variables)
+long_enough-requires c = omega (arith, (graph_good (graph_lent c.args.graph) c.args.settings c.args.room c.check.ensures c.in_ok-check.was).variables)
 
 pub returns-then-not-long_enough : goal.returns-then-not-long_enough
-unfolding of_bits of_int
-returns-then-not-long_enough c =
-    let A : Asked = asked c.args.n c.args.starts.now c.args.columns.now c.args.settings c.args.count in
-    memory_refused A c.args.room c.check-j.ensures c.in_default.is c.check_settings-c.ensures c.in-Good.is (sym c.long_enough.ensures ∙ c.if-not-long_enough.true)
+returns-then-not-long_enough c = memory_refused (graph_lent c.args.graph) c.args.settings c.args.room c.check.ensures c.in_ok-check.was (c.check_settings.ensures ∙ ap settings_of c.scaled.ensures) c.in_ok-settings.was (rw (sym c.entries.ensures) (sym c.long_enough.ensures ∙ c.if-not-long_enough.true))
 
 pub returns : goal.returns
-unfolding of_bits of_int
-returns c =
-    let A : Asked = asked c.args.n c.args.starts.now c.args.columns.now c.args.settings c.args.count in
-    all_accepted A c.args.room c.check-j.ensures c.in_default.is c.check_settings-c.ensures c.in-Good.is (sym c.long_enough.ensures ∙ c.if-not-long_enough.false)
+returns c = all_accepted (graph_lent c.args.graph) c.args.settings c.args.room c.check.ensures c.in_ok-check.was (c.check_settings.ensures ∙ ap settings_of c.scaled.ensures) c.in_ok-settings.was (rw (sym c.entries.ensures) (sym c.long_enough.ensures ∙ c.if-not-long_enough.false))

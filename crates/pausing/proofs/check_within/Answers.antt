@@ -7,17 +7,17 @@ use Rattle.nodes.specs.Memory.{level_in}
 use Rattle.pausing.specs.Pausing.{within_judged}
 use Rattle.pausing.proofs.check_within.Goals as goal
 
-pub loop-k-init : goal.loop-k-init
-loop-k-init c = (omega arith, passed_none)
+pub loop-byte-init : goal.loop-byte-init
+loop-byte-init c = passed_none
 
-pub returns-then-most-list : goal.returns-then-most-list
+pub returns-then-most-byte : goal.returns-then-most-byte
 unfolding within_judged level_of
-returns-then-most-list c = sym (failed_at c.loop-k.invariant.1 (lt-leb (level_in c.args.list.now c.loop-k.k).magnitude c.args.most (omega (arith, c.if-most-list.true))) (omega arith))
+returns-then-most-byte c = sym (failed_at c.loop-byte.invariant (lt-leb (level_in c.args.list.now c.loop-byte.byte-index).magnitude c.args.most (omega (arith, c.if-most-byte.true))) (omega arith))
 
-pub loop-k-preserved : goal.loop-k-preserved
+pub loop-byte-preserved : goal.loop-byte-preserved
 unfolding level_of
-loop-k-preserved c = (omega arith, passed_more c.loop-k.invariant.1 (le-leb (level_in c.args.list.now c.loop-k.k).magnitude c.args.most (omega (arith, c.if-most-list.false))))
+loop-byte-preserved c = passed_more c.loop-byte.invariant (le-leb (level_in c.args.list.now c.loop-byte.byte-index).magnitude c.args.most (omega (arith, c.if-most-byte.false)))
 
 pub returns : goal.returns
 unfolding within_judged
-returns c = sym (passed_all c.loop-k.invariant.1 (omega arith))
+returns c = sym (passed_all c.loop-byte.invariant (omega arith))

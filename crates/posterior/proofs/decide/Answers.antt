@@ -6,20 +6,14 @@ use mir.ValLaws.{to_z-of_z}
 use Rattle.rules.specs.Ranges.{one}
 use Rattle.rules.specs.Levels.{level_of}
 use Rattle.rules.specs.Nodes.{bit_of}
-use Rattle.rules.proofs.Filling.{filled_none, filled_more, filled_all}
+use Rattle.rules.proofs.Filling.{filled_none, filled_more}
 use Rattle.nodes.specs.Memory.{level_in}
 use Rattle.posterior.proofs.decide.Goals as goal
 
 pub loop-v-init : goal.loop-v-init
-loop-v-init c = (omega arith, filled_none _ _)
+loop-v-init c = filled_none _ _
 
 pub loop-v-preserved : goal.loop-v-preserved
 unfolding level_of
-loop-v-preserved c = (
-  omega arith,
-  filled_more (omega arith) c.loop-v.invariant.1
-      (c.bit.ensures ∙ ap (λ (s : ℤ). one (bit_of s (level_in c.args.levels.now c.loop-v.v).minus)) (to_z-of_z w32 c.sum.result (record { sfits = c.sum.type_inv }) ∙ c.sum.ensures)),
-)
-
-pub returns : goal.returns
-returns c = filled_all (omega arith) (omega arith) c.loop-v.invariant.1
+loop-v-preserved c = filled_more (omega arith) c.loop-v.invariant
+    (c.bit.ensures ∙ ap (λ (s : ℤ). one (bit_of s (level_in c.args.levels.now c.loop-v.v).minus)) (to_z-of_z w32 c.sum.result (record { sfits = c.sum.type_inv }) ∙ c.sum.ensures))

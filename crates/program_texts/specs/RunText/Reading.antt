@@ -1,14 +1,12 @@
 -- Document 01, 'The program', refusal 14: the run text for n values, line by line.
 -- The answer is a function of the text that is left, so that no place of the text stands in it.
-use Rattle.std.specs.Prelude.{◌≡◌, cond, List, [], ◌∷◌, ◌++◌, ℕ, zero, suc, leb, length, drop}
+use Rattle.std.specs.Prelude.{◌≡◌, cond, List, [], ◌∷◌, ◌++◌, ℕ, zero, suc, leb, length, drop, Result, Ok, Err}
 use Rattle.rules.specs.Nodes.{never}
 use Rattle.texts.specs.Numbers.{Front, other, value}
 use Rattle.texts.specs.Lines.{lf, fixed}
 use Rattle.words.specs.Words.{bytes}
 use Rattle.settings.specs.declared.Parameters.{Parameters}
 use Rattle.settings.specs.Settings.{largest_lift}
-use Rattle.program_texts.specs.declared.Run.{Run}
-use Rattle.program_texts.specs.declared.Run.TheVariants as Answer
 use Rattle.program_texts.specs.RunText.Texts.{titles, settings_line, value_title, pattern}
 
 -- The line that is refused, or the settings and the bytes of the values, four each, lowest first.
@@ -46,9 +44,13 @@ run_text n t = cond (leb (length t) largest_input) (run_lines n t) (refused 0)
 
 -- ---- the answer, and the lent bytes afterwards
 
+-- The settings, or the line that is refused, 0 where the text is oversized.
+abbrev pub Run : Type 0
+Run = Result Parameters ℕ
+
 abbrev pub answer_of : RunText → Run
-answer_of (refused l) = Answer.Refused l
-answer_of (read g values) = Answer.Read g
+answer_of (refused l) = Err l
+answer_of (read g values) = Ok g
 
 -- The values in front, and the bytes past them unchanged; all unchanged after a refusal.
 abbrev pub values_in : RunText → List ℕ → List ℕ

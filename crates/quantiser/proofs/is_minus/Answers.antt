@@ -1,13 +1,9 @@
-use mathlib.Core.Path.{sym, subst}
-use lib.Dec.{T}
-use Rattle.settings.proofs.Floats.{other_nan, same_number, sign_is}
+use mathlib.Core.Path.{sym, ◌∙◌}
+use Rattle.settings.proofs.Floats.{same_sign, nan_sign}
 use Rattle.quantiser.proofs.is_minus.Goals as goal
 
-pub returns-then-y : goal.returns-then-y
-returns-then-y c = other_nan c.args.y c.if-y.true
+pub returns-then-not-is_nan : goal.returns-then-not-is_nan
+returns-then-not-is_nan c = c.is_sign_negative.ensures ∙ same_sign c.args.y
 
-pub float_to_bits-result : goal.float_to_bits-result
-float_to_bits-result c = same_number c.args.y c.if-y.false
-
-pub returns : goal.returns
-returns c = sign_is c.args.y (subst T (sym c.well_formed.0.1) tt) (same_number c.args.y c.if-y.false)
+pub returns-else-not-is_nan : goal.returns-else-not-is_nan
+returns-else-not-is_nan c = rw c.if-not-is_nan.false (nan_sign c.args.y (sym c.is_nan.ensures.value ∙ c.if-not-is_nan.false))

@@ -1,13 +1,13 @@
 use mathlib.Core.Path.{sym, subst, ◌∙◌}
 use lib.Dec.{T}
-use Rattle.settings.proofs.Floats.{same_number, size_is, size_nan}
+use Rattle.settings.proofs.Floats.{nan_size, size_is, size_pattern}
 use Rattle.quantiser.proofs.size_of.Goals as goal
 
-pub returns-then-y : goal.returns-then-y
-returns-then-y c = size_nan c.args.y c.if-y.true
+pub returns-then-is_nan : goal.returns-then-is_nan
+returns-then-is_nan c = nan_size c.args.y (sym c.is_nan.ensures.value ∙ c.if-is_nan.true)
 
-pub float_to_bits-y : goal.float_to_bits-y
-float_to_bits-y c = same_number c.args.y c.if-y.false
+pub float_from_bits-result : goal.float_from_bits-result
+float_from_bits-result c = size_pattern c.args.y (subst T (sym c.well_formed.0.1) tt) (sym c.is_nan.ensures.value ∙ c.if-is_nan.false)
 
 pub returns : goal.returns
-returns c = c.float_of.ensures ∙ size_is c.args.y (subst T (sym c.well_formed.0.1) tt)
+returns c = size_is c.args.y (subst T (sym c.well_formed.0.1) tt)

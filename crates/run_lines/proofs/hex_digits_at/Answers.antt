@@ -1,24 +1,34 @@
-use Rattle.run_lines.proofs.Words.{reading_none, reading_all, reading_end, reading_not, reading_fits, reading_more}
+use mathlib.Core.Path.{sym, ap, ◌∙◌}
 use native.Mathlib.Omega.{arith}
+use borrow.Author.Tests.{ltb-false}
+use Rattle.program_texts.specs.RunText.Texts.{hex_digit}
+use Rattle.run_lines.proofs.Words.{reading_none, reading_all, reading_end, reading_not, reading_fits, reading_more}
 use Rattle.run_lines.proofs.hex_digits_at.Goals as goal
 
 pub loop-k-init : goal.loop-k-init
-loop-k-init c = (omega arith, reading_none c.args.s.now c.args.at c.requires)
+loop-k-init c = reading_none c.args.s.now c.args.at c.requires
 
-pub returns-then-s-i : goal.returns-then-s-i
-returns-then-s-i c = reading_end c.loop-k.invariant.1 (omega arith) c.if-s-i.true
+pub returns-in_err-b : goal.returns-in_err-b
+returns-in_err-b c =
+    rw c.from_residual.ensures (reading_end c.loop-k.invariant c.loop-k-test.true (ltb-false _ _ (sym c.in_err-b.ensures.lookup.0)))
 
-pub returns-then-d-ge16 : goal.returns-then-d-ge16
-returns-then-d-ge16 c = reading_not c.loop-k.invariant.1 (omega arith) (omega arith) (omega (arith, c.hex_digit-d.ensures))
+pub overflow_mul-value : goal.overflow_mul-value
+overflow_mul-value c = omega (arith, reading_fits c.loop-k.invariant c.loop-k-test.true 0)
 
-pub overflow_mul-v : goal.overflow_mul-v
-overflow_mul-v c = omega (arith, reading_fits c.loop-k.invariant.1 (omega arith) c.hex_digit-d.result (omega arith))
+pub returns-in_err-value : goal.returns-in_err-value
+returns-in_err-value c =
+    let found = c.in_ok-b.ensures.lookup.3 in
+    rw c.from_residual-in_err-value.ensures
+    (reading_not c.loop-k.invariant c.loop-k-test.true found.0 (ap hex_digit (sym (found.1 0)) ∙ c.in_err-value.ensures))
 
-pub overflow_add-v : goal.overflow_add-v
-overflow_add-v c = omega (arith, reading_fits c.loop-k.invariant.1 (omega arith) c.hex_digit-d.result (omega arith))
+pub overflow_add-value : goal.overflow_add-value
+overflow_add-value c = omega (arith, reading_fits c.loop-k.invariant c.loop-k-test.true c.in_ok-value.field-0 c.in_ok-value.ensures.0)
 
 pub loop-k-preserved : goal.loop-k-preserved
-loop-k-preserved c = (omega arith, reading_more c.loop-k.invariant.1 (omega arith) (omega arith) c.hex_digit-d.ensures (omega arith))
+loop-k-preserved c =
+    let found = c.in_ok-b.ensures.lookup.3 in
+    let digit = c.in_ok-value.ensures in
+    reading_more c.loop-k.invariant c.loop-k-test.true found.0 (digit.0, ap hex_digit (sym (found.1 0)) ∙ digit.1)
 
 pub returns : goal.returns
-returns c = record { reads = reading_all c.loop-k.invariant.1 (omega arith); within = c.loop-k.invariant.1.within }
+returns c = reading_all c.loop-k.invariant (omega arith)

@@ -1,42 +1,18 @@
-use mathlib.Core.Path.{◌≡◌, sym, ◌∙◌}
-use mathlib.Core.Bool.{true}
+use mathlib.Core.Path.{sym}
 use borrow.Author.Tests.{le-leb, lt-leb}
-use Rattle.rules.specs.Graphs.{limits, fewest_variables, fewest_checks, between}
 use Rattle.graphs.specs.Judging.{counts_judged}
-use Rattle.words.specs.Roles.{graph_of}
 use Rattle.shape.proofs.check_counts.Goals as goal
+use Rattle.shape.proofs.check_counts.Goals.{else-variables-via-then-variables+then-checks+else-entries-le-MOST_ENTRIES, else-variables-via-then-variables+else-checks, else-variables-via-else-variables}
 
-pub returns-then-not-in_range : goal.returns-then-not-in_range
+pub returns-then-entries-le-MOST_ENTRIES : goal.returns-then-entries-le-MOST_ENTRIES
 unfolding counts_judged
-returns-then-not-in_range c = sym (rw (← c.in_range.ensures, c.if-not-in_range.true))
+returns-then-entries-le-MOST_ENTRIES c =
+    sym (rw (← c.in_range-variables.ensures, c.if-variables.true, ← c.checks.ensures, ← c.in_range-checks.ensures, c.if-checks.true, ← c.entries.ensures, le-leb _ _ c.if-entries-le-MOST_ENTRIES.true))
 
-pub returns-then-not-in_range-2 : goal.returns-then-not-in_range-2
+pub returns-else-variables : goal.returns-else-variables
 unfolding counts_judged
-returns-then-not-in_range-2 c =
-    let variables : between fewest_variables (graph_of c.args.n c.args.starts.now c.args.columns.now).variables limits.variables ≡ true = sym c.in_range.ensures ∙ c.if-not-in_range.false in
-    let tested : between fewest_checks (graph_of c.args.n c.args.starts.now c.args.columns.now).checks limits.checks ≡ c.in_range-2.result = rw (← c.checks.ensures) (sym c.in_range-2.ensures) in
-    sym (rw (variables, tested, c.if-not-in_range-2.true))
-
-pub returns-then-columns-gt-MOST_ENTRIES : goal.returns-then-columns-gt-MOST_ENTRIES
-unfolding counts_judged
-returns-then-columns-gt-MOST_ENTRIES c =
-    let variables : between fewest_variables (graph_of c.args.n c.args.starts.now c.args.columns.now).variables limits.variables ≡ true = sym c.in_range.ensures ∙ c.if-not-in_range.false in
-    let tested : between fewest_checks (graph_of c.args.n c.args.starts.now c.args.columns.now).checks limits.checks ≡ c.in_range-2.result = rw (← c.checks.ensures) (sym c.in_range-2.ensures) in
-    sym (rw (
-      variables,
-      tested,
-      c.if-not-in_range-2.false,
-      lt-leb _ _ c.if-columns-gt-MOST_ENTRIES.true,
-    ))
-
-pub returns : goal.returns
-unfolding counts_judged
-returns c =
-    let variables : between fewest_variables (graph_of c.args.n c.args.starts.now c.args.columns.now).variables limits.variables ≡ true = sym c.in_range.ensures ∙ c.if-not-in_range.false in
-    let tested : between fewest_checks (graph_of c.args.n c.args.starts.now c.args.columns.now).checks limits.checks ≡ c.in_range-2.result = rw (← c.checks.ensures) (sym c.in_range-2.ensures) in
-    sym (rw (
-      variables,
-      tested,
-      c.if-not-in_range-2.false,
-      le-leb _ _ c.if-columns-gt-MOST_ENTRIES.false,
-    ))
+returns-else-variables c = elim c.else-variables.branch [
+  | else-variables-via-then-variables+then-checks+else-entries-le-MOST_ENTRIES w ↦ sym (rw (← c.in_range-variables.ensures, w.if-variables.true, ← c.checks.ensures, ← c.in_range-checks.ensures, w.if-checks.true, ← w.entries.ensures, lt-leb _ _ w.if-entries-le-MOST_ENTRIES.false))
+  | else-variables-via-then-variables+else-checks w ↦ sym (rw (← c.in_range-variables.ensures, w.if-variables.true, ← c.checks.ensures, ← c.in_range-checks.ensures, w.if-checks.false))
+  | else-variables-via-else-variables w ↦ sym (rw (← c.in_range-variables.ensures, w.if-variables.false))
+]

@@ -1,27 +1,19 @@
 use mathlib.Core.Path.{sym}
 use native.Mathlib.Omega.{arith}
-use borrow.Author.Rules.{rules}
-use Rattle.refusals.proofs.Judging.{passed_none, passed_more, passed_all, failed_at}
-use Rattle.graphs.specs.Judging.{span_judged}
-use Rattle.shape.proofs.Loops.{less_true, less_false}
+use Rattle.words.specs.Roles.{column_at}
+use Rattle.shape.proofs.Loops.{less_true, less_false, rises_none, rises_more, rises_all, falls_at}
 use Rattle.shape.proofs.check_row.Goals as goal
 
-pub loop-k-init : goal.loop-k-init
-loop-k-init c = (search rules, passed_none)
-
 pub returns-then-column : goal.returns-then-column
-unfolding span_judged
 returns-then-column c =
-    sym (failed_at c.loop-k.invariant.1
-    (less_false c.column-in-loop-k.ensures.0 c.column.ensures.0 c.if-column.true) (omega arith))
+    sym (falls_at (column_at c.args.graph.columns.now) c.args.a c.args.b c.loop-e.e (omega arith) (omega arith) c.loop-e.invariant (less_false c.column-in-loop-e.ensures.0 c.column.ensures.0 c.if-column.true))
 
-pub loop-k-preserved : goal.loop-k-preserved
-loop-k-preserved c = (
-  search rules,
-  passed_more c.loop-k.invariant.1
-      (less_true c.column-in-loop-k.ensures.0 c.column.ensures.0 c.if-column.false),
-)
+pub loop-e-init : goal.loop-e-init
+loop-e-init c = rises_none (column_at c.args.graph.columns.now) c.args.a
+
+pub loop-e-preserved : goal.loop-e-preserved
+loop-e-preserved c =
+    rises_more (column_at c.args.graph.columns.now) c.args.a c.loop-e.e (omega arith) c.loop-e.invariant (less_true c.column-in-loop-e.ensures.0 c.column.ensures.0 c.if-column.false)
 
 pub returns : goal.returns
-unfolding span_judged
-returns c = sym (passed_all c.loop-k.invariant.1 (omega arith))
+returns c = sym (rises_all (column_at c.args.graph.columns.now) c.args.a c.args.b c.loop-e.e (omega arith) c.loop-e.auto.e-end c.loop-e.invariant)

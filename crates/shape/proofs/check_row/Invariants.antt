@@ -1,12 +1,7 @@
-use Prim.Native.Nat.{◌+◌, ◌-◌, ◌≤◌}
-use lib.Dec.{ltb}
-use Rattle.refusals.specs.declared.Refusal.TheVariants.{Order}
-use Rattle.refusals.proofs.Judging.{Passed}
+use Prim.Native.Nat.{◌-◌}
 use Rattle.words.specs.Roles.{column_at}
+use Rattle.shape.proofs.Loops.{Rises}
 use Rattle.shape.proofs.check_row.Given as goal
 
-abbrev pub invariant-loop-k : goal.invariant-loop-k
-invariant-loop-k l = (l.k ≤ l.b - l.a - 1) × Passed (λ k. ltb (column_at l.columns (l.a + k)) (column_at l.columns (l.a + k + 1))) (λ k. Order (l.a + k + 1)) l.k
-
-abbrev pub decreases-loop-k : goal.decreases-loop-k
-decreases-loop-k l = l.b - l.a - l.k
+abbrev pub invariant-loop-e : goal.invariant-loop-e
+invariant-loop-e l = Rises (column_at l.graph.columns.now) l.a (l.e - l.a - 1)

@@ -1,37 +1,30 @@
-use mathlib.Core.Path.{◌≡◌, sym, ap, ◌∙◌}
+use Rattle.std.specs.Prelude.{Err}
+use Rattle.std.proofs.lemmas.Result.{err_from_is_err_and}
+use mathlib.Core.Path.{sym, ap, ◌∙◌}
 use native.Mathlib.Omega.{arith}
-use borrow.Author.Rules.{rules}
 use Rattle.refusals.specs.Refusals.{each}
 use Rattle.refusals.proofs.Judging.{each_none, each_more, each_at}
 use Rattle.graphs.specs.Judging.{rows_judged}
-use Rattle.words.specs.Roles.{graph_of}
-use Rattle.graphs.proofs.Parts.{row_judged, row_ends, starts_told}
+use Rattle.graphs.proofs.Parts.{row_ends, starts_told}
+use Rattle.words.specs.Roles.{graph_lent}
 use Rattle.shape.proofs.Loops.{row_test}
 use Rattle.shape.proofs.check_rows.Goals as goal
 
 pub loop-i-init : goal.loop-i-init
-loop-i-init c = (search rules, each_none _)
+loop-i-init c = each_none _
 
-pub check_row-j-requires : goal.check_row-j-requires
-check_row-j-requires c =
-    row_ends _ (starts_told _ c.requires) c.loop-i.i
-    (omega arith) c.start.ensures.0 c.start-in-loop-i.ensures.0
+pub check_row-requires : goal.check_row-requires
+check_row-requires c = row_ends _ (starts_told _ c.requires) c.loop-i.i (omega arith) c.start.ensures.0 c.start-in-loop-i.ensures.0
 
-pub returns-in-Refused : goal.returns-in-Refused
+pub returns-in_err-check_row : goal.returns-in_err-check_row
 unfolding rows_judged
-returns-in-Refused c =
-    let row : row_judged (graph_of c.args.n c.args.starts.now c.args.columns.now) c.loop-i.i ≡ c.check_row-j.result = row_test (graph_of c.args.n c.args.starts.now c.args.columns.now) c.loop-i.i _ _ c.start.ensures.0 c.start-in-loop-i.ensures.0 c.check_row-j.ensures in
-    sym (each_at _ c.loop-i.i _ _
-    c.loop-i.invariant.1 (row ∙ c.in-Refused.is)
-    (omega arith))
+returns-in_err-check_row c =
+    let p = err_from_is_err_and c.from_residual.result c.from_residual.ensures.1 in
+    p.1 ∙ ap Err p.2 ∙ sym (each_at _ c.loop-i.i _ _ c.loop-i.invariant (row_test (graph_lent c.args.graph) c.loop-i.i c.start.ensures.0 c.start-in-loop-i.ensures.0 c.in_err-check_row.ensures) (omega arith))
 
 pub loop-i-preserved : goal.loop-i-preserved
-loop-i-preserved c =
-    let row : row_judged (graph_of c.args.n c.args.starts.now c.args.columns.now) c.loop-i.i ≡ c.check_row-j.result = row_test (graph_of c.args.n c.args.starts.now c.args.columns.now) c.loop-i.i _ _ c.start.ensures.0 c.start-in-loop-i.ensures.0 c.check_row-j.ensures in (
-      search rules,
-      each_more _ _ c.loop-i.invariant.1 (row ∙ c.in_default.is),
-    )
+loop-i-preserved c = each_more _ _ c.loop-i.invariant (row_test (graph_lent c.args.graph) c.loop-i.i c.start.ensures.0 c.start-in-loop-i.ensures.0 c.in_ok-check_row.ensures)
 
 pub returns : goal.returns
 unfolding rows_judged
-returns c = sym c.loop-i.invariant.1 ∙ ap (each _) (omega arith)
+returns c = sym c.loop-i.invariant ∙ ap (each _) (omega arith)

@@ -1,20 +1,13 @@
-use mathlib.Core.Path.{subst}
-use Rattle.code_sheets.specs.Text.Reading.{sheet_lines}
-use Rattle.code_sheets.specs.Text.Scanning.{within, ScannedAs}
+use Rattle.std.proofs.Common.{rules}
+use Rattle.code_sheets.specs.Text.Scanning.{within}
 use Rattle.code_sheets.proofs.Reader.Calls.{lines_judged_lem, entries_at, judged_into}
 use Rattle.sheet.proofs.judge_within.Goals as goal
 
 pub judge_lines-requires : goal.judge_lines-requires
-judge_lines-requires c =
-    let a = c.args in
-    entries_at c.requires (subst (ScannedAs (within a.most) a.text.now (sheet_lines (within a.most) a.text.now)) c.in-Lines.is c.scan-scanned.ensures)
+judge_lines-requires c = entries_at c.requires c.in_ok-counts.ensures
 
-pub returns-in-Refused : goal.returns-in-Refused
-returns-in-Refused c =
-    let a = c.args in
-    lines_judged_lem {L = within a.most} {t = a.text.now} (subst (ScannedAs (within a.most) a.text.now (sheet_lines (within a.most) a.text.now)) c.in-Refused.is c.scan-scanned.ensures)
+pub returns-in_err-counts : goal.returns-in_err-counts
+returns-in_err-counts c = search (rules, lines_judged_lem {L = within c.args.most} {t = c.args.text.now} c.in_err-counts.ensures)
 
-pub returns-in-Lines : goal.returns-in-Lines
-returns-in-Lines c =
-    let a = c.args in
-    judged_into c.requires (subst (ScannedAs (within a.most) a.text.now (sheet_lines (within a.most) a.text.now)) c.in-Lines.is c.scan-scanned.ensures) c.judge_lines.ensures
+pub returns : goal.returns
+returns c = judged_into c.requires c.in_ok-counts.ensures c.judge_lines.ensures

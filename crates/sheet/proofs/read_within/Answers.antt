@@ -1,20 +1,13 @@
-use mathlib.Core.Path.{subst}
-use Rattle.code_sheets.specs.Text.Reading.{sheet_lines}
-use Rattle.code_sheets.specs.Text.Scanning.{within, ScannedAs}
+use Rattle.std.proofs.Common.{rules}
+use Rattle.code_sheets.specs.Text.Scanning.{within}
 use Rattle.code_sheets.proofs.Reader.Calls.{lines_refused, entries_at, read_into}
 use Rattle.sheet.proofs.read_within.Goals as goal
 
-pub returns-in-Refused : goal.returns-in-Refused
-returns-in-Refused c =
-    let a = c.args in
-    lines_refused {L = within a.most} {t = a.text.now} (subst (ScannedAs (within a.most) a.text.now (sheet_lines (within a.most) a.text.now)) c.in-Refused.is c.scan-scanned.ensures)
-
 pub finish-requires : goal.finish-requires
-finish-requires c =
-    let a = c.args in
-    entries_at c.requires (subst (ScannedAs (within a.most) a.text.now (sheet_lines (within a.most) a.text.now)) c.in-Lines.is c.scan-scanned.ensures)
+finish-requires c = entries_at c.requires c.in_ok-counts.ensures
 
-pub returns-in-Lines : goal.returns-in-Lines
-returns-in-Lines c =
-    let a = c.args in
-    read_into c.requires (subst (ScannedAs (within a.most) a.text.now (sheet_lines (within a.most) a.text.now)) c.in-Lines.is c.scan-scanned.ensures) c.finish.ensures
+pub returns-in_err-counts : goal.returns-in_err-counts
+returns-in_err-counts c = search (rules, lines_refused {L = within c.args.most} {t = c.args.text.now} c.in_err-counts.ensures)
+
+pub returns : goal.returns
+returns c = read_into c.requires c.in_ok-counts.ensures c.finish.ensures

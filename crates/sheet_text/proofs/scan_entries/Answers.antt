@@ -1,3 +1,4 @@
+use Rattle.std.proofs.Common.{rules}
 use mathlib.Core.Path.{sym, ◌∙◌, subst}
 use Prim.Native.Nat.{◌+◌}
 use native.Mathlib.Omega.{arith}
@@ -21,20 +22,24 @@ pub overflow_add-result-in_default : goal.overflow_add-result-in_default
 overflow_add-result-in_default c = omega (arith, c.requires.up_to.entries)
 
 pub returns-in_default : goal.returns-in_default
-returns-in_default c = scanning_other c.loop-at.invariant.1 (omega arith) (omega arith) (subst (LineAt c.args.text.now c.loop-at.at) c.in_default.is c.line_at-line.ensures)
+returns-in_default c = scanning_other c.loop-at.invariant.1 (omega arith) (omega arith) c.in_default.ensures
 
 pub overflow_add-k : goal.overflow_add-k
 overflow_add-k c = omega (arith, c.requires.up_to.entries)
 
-pub returns-in-Refused : goal.returns-in-Refused
-returns-in-Refused c =
-    let r = subst (LineAt c.args.text.now c.loop-at.at) c.in-Two.is c.line_at-line.ensures in
-    scanning_refused c.loop-at.invariant.1 (omega arith) (omega arith) r.pair c.in-Two.next r.reads
-    (sym (capped_entry (pair c.args.n c.args.m) (pair c.loop-at.c0 c.loop-at.w0) (c.loop-at.k + 4) r.pair c.in-Two.c c.in-Two.v (omega (arith, c.requires.up_to.variables)) (omega (arith, c.requires.up_to.checks)) r.first r.second) ∙ sym c.judge_entry-j.ensures ∙ c.in-Refused.is)
+pub returns-in_err-judge_entry : goal.returns-in_err-judge_entry
+returns-in_err-judge_entry c =
+    let r = c.in-Some.ensures in
+    search (
+      rules,
+      scanning_refused c.loop-at.invariant.1 (omega arith) (omega arith) r.pair c.in-Some.line.next r.reads
+          (sym (capped_entry (pair c.args.n c.args.m) (pair c.loop-at.c0 c.loop-at.w0) (c.loop-at.k + 4) r.pair c.in-Some.line.value.0 c.in-Some.line.value.1 (omega (arith, c.requires.up_to.variables)) (omega (arith, c.requires.up_to.checks)) r.first r.second)
+          ∙ sym c.in_err-judge_entry.ensures),
+    )
 
 pub overflow_add-w0 : goal.overflow_add-w0
 overflow_add-w0 c =
-    let r = subst (LineAt c.args.text.now c.loop-at.at) c.in-Two.is c.line_at-line.ensures in
+    let r = c.in-Some.ensures in
     omega (arith, r.second)
 
 pub overflow_add-k-in-loop-at : goal.overflow_add-k-in-loop-at
@@ -42,19 +47,19 @@ overflow_add-k-in-loop-at c = omega (arith, c.requires.up_to.entries)
 
 pub loop-at-smaller : goal.loop-at-smaller
 loop-at-smaller c =
-    let r = subst (LineAt c.args.text.now c.loop-at.at) c.in-Two.is c.line_at-line.ensures in
+    let r = c.in-Some.ensures in
     omega (arith, r.on, r.within)
 
 pub loop-at-preserved : goal.loop-at-preserved
 loop-at-preserved c =
-    let r = subst (LineAt c.args.text.now c.loop-at.at) c.in-Two.is c.line_at-line.ensures in
+    let r = c.in-Some.ensures in
     let counts = pair c.args.n c.args.m in
     let low = pair c.loop-at.c0 c.loop-at.w0 in
-    let judged = sym (capped_entry (pair c.args.n c.args.m) (pair c.loop-at.c0 c.loop-at.w0) (c.loop-at.k + 4) r.pair c.in-Two.c c.in-Two.v (omega (arith, c.requires.up_to.variables)) (omega (arith, c.requires.up_to.checks)) r.first r.second) ∙ sym c.judge_entry-j.ensures ∙ c.in_default-j.is in (
+    let judged = sym (capped_entry (pair c.args.n c.args.m) (pair c.loop-at.c0 c.loop-at.w0) (c.loop-at.k + 4) r.pair c.in-Some.line.value.0 c.in-Some.line.value.1 (omega (arith, c.requires.up_to.variables)) (omega (arith, c.requires.up_to.checks)) r.first r.second) ∙ sym c.judge_entry.ensures ∙ c.in_ok-judge_entry.was in (
       omega arith,
-      subst (Scanning sheet_entries c.args.most.entries counts c.args.text.now c.args.from c.in-Two.next (c.loop-at.k + 1))
-          (after_capped counts low (c.loop-at.k + 4) r.pair c.in-Two.c c.in-Two.v (omega (arith, c.requires.up_to.variables)) (omega (arith, c.requires.up_to.checks)) r.first r.second judged)
-          (scanning_more c.loop-at.invariant.1 (omega arith) (omega arith) r.pair c.in-Two.next r.reads r.within judged),
+      subst (Scanning sheet_entries c.args.most.entries counts c.args.text.now c.args.from c.in-Some.line.next (c.loop-at.k + 1))
+          (after_capped counts low (c.loop-at.k + 4) r.pair c.in-Some.line.value.0 c.in-Some.line.value.1 (omega (arith, c.requires.up_to.variables)) (omega (arith, c.requires.up_to.checks)) r.first r.second judged)
+          (scanning_more c.loop-at.invariant.1 (omega arith) (omega arith) r.pair c.in-Some.line.next r.reads r.within judged),
     )
 
 pub returns : goal.returns

@@ -1,30 +1,26 @@
-use Prim.Native.Nat.{◌+◌}
 use native.Mathlib.Omega.{arith}
-use borrow.Author.Rules.{rules}
+use Rattle.rules.proofs.Rows.{admitted_row}
+use Rattle.words.specs.Roles.{graph_lent}
 use Rattle.solving.proofs.Loading.{load_none, load_more, load_all}
 use Rattle.solving.proofs.load_row.Goals as goal
 
-pub loop-k-init : goal.loop-k-init
-loop-k-init c = (search rules, load_none _ _)
+pub loop-e-init : goal.loop-e-init
+loop-e-init c = load_none (graph_lent c.args.graph) c.args.graph.variables c.args.j c.start-e.ensures.0
 
-pub overflow_mul-w : goal.overflow_mul-w
-overflow_mul-w c = record { fits = omega arith }
+pub column-requires : goal.column-requires
+column-requires c = omega (arith, admitted_row _ c.requires.0 c.args.j c.requires.1 c.start-e.ensures.0 c.start-e-end.ensures.0)
 
 pub flip-requires : goal.flip-requires
 flip-requires c =
-    let turn = c.loop-k in
-    let a = c.args in
-    omega (arith, turn.invariant.1.long, c.column.ensures.0, c.requires.by_index (a.a + turn.k) (omega arith))
+    let ends = admitted_row _ c.requires.0 c.args.j c.requires.1 c.start-e.ensures.0 c.start-e-end.ensures.0 in
+    omega (arith, c.requires.0.within c.loop-e.e (omega (arith, ends)), c.loop-e.invariant.long)
 
-pub loop-k-preserved : goal.loop-k-preserved
-loop-k-preserved c =
-    let col = c.column in
-    let turn = c.loop-k in
-    let a = c.args in
-    (search rules, load_more _ _ _ _ (omega (arith, col.ensures.0, c.requires.by_index (a.a + turn.k) (omega arith))) (omega arith) col.ensures.0 turn.invariant.1 c.flip.ensures)
-
-pub shape_of-work : goal.shape_of-work
-shape_of-work c = c.loop-k.invariant.1.long
+pub loop-e-preserved : goal.loop-e-preserved
+loop-e-preserved c =
+    let ends = admitted_row _ c.requires.0 c.args.j c.requires.1 c.start-e.ensures.0 c.start-e-end.ensures.0 in
+    load_more (graph_lent c.args.graph) c.args.graph.variables c.args.j (omega arith) (omega (arith, c.requires.0.within c.loop-e.e (omega (arith, ends)))) (omega arith) c.column.ensures.0 c.loop-e.invariant c.flip.ensures
 
 pub returns : goal.returns
-returns c = load_all _ _ (omega arith) c.loop-k.invariant.1
+returns c =
+    let ends = admitted_row _ c.requires.0 c.args.j c.requires.1 c.start-e.ensures.0 c.start-e-end.ensures.0 in
+    load_all (graph_lent c.args.graph) c.args.graph.variables c.args.j (omega (arith, c.loop-e.auto.e-end (omega (arith, ends.0)))) c.loop-e.invariant

@@ -1,12 +1,7 @@
-use mathlib.Core.Bool.{xor}
-use Prim.Native.Nat.{◌-◌, ◌≤◌}
-use Rattle.words.specs.Roles.{column_at}
-use Rattle.elimination.specs.Rows.{rows_in, Turned}
-use Rattle.solving.specs.Solving.{entries_row}
+use Rattle.words.specs.Roles.{graph_lent}
+use Rattle.elimination.specs.Rows.{Turned}
+use Rattle.solving.proofs.Loading.{with_entries}
 use Rattle.solving.proofs.load_row.Given as goal
 
-abbrev pub invariant-loop-k : goal.invariant-loop-k
-invariant-loop-k l = (l.k ≤ l.b - l.a) × Turned l.n l.j (λ u. xor (rows_in l.n l.initial.work l.j u) (entries_row (column_at l.columns) l.a l.k u)) l.initial.work l.work
-
-abbrev pub decreases-loop-k : goal.decreases-loop-k
-decreases-loop-k l = l.b - l.a - l.k
+abbrev pub invariant-loop-e : goal.invariant-loop-e
+invariant-loop-e l = Turned l.graph.variables l.j (with_entries (graph_lent l.graph) l.graph.variables l.initial.work l.j l.e) l.initial.work l.work

@@ -9,9 +9,6 @@ use Rattle.solving.proofs.put_one.Goals as goal
 pub returns-then-not-bit : goal.returns-then-not-bit
 returns-then-not-bit c = put_nothing _ _ _ (sym c.bit.ensures ∙ c.if-not-bit.true)
 
-pub overflow_sub-codeword : goal.overflow_sub-codeword
-overflow_sub-codeword c = omega (arith, has_top _ c.requires.n_value (sym c.bit.ensures ∙ c.if-not-bit.false), c.highest-h.ensures)
-
 pub bounds-codeword-h : goal.bounds-codeword-h
 bounds-codeword-h c =
     let a = c.args in

@@ -1,11 +1,6 @@
-use Prim.Native.Nat.{◌-◌, ◌≤◌}
-use Rattle.rules.specs.Graphs.{odd_check}
-use Rattle.words.specs.Roles.{graph_of, bit_of_byte}
+use Rattle.words.specs.Roles.{graph_lent, bit_of_byte}
 use Rattle.syndrome.proofs.Loops.{Counted}
 use Rattle.syndrome.proofs.is_codeword.Given as goal
 
 abbrev pub invariant-loop-i : goal.invariant-loop-i
-invariant-loop-i l = (l.i ≤ l.m) × Counted (odd_check (graph_of l.n l.starts l.columns) (bit_of_byte l.bits)) 0 l.i
-
-abbrev pub decreases-loop-i : goal.decreases-loop-i
-decreases-loop-i l = l.m - l.i
+invariant-loop-i l = Counted (graph_lent l.graph) (bit_of_byte l.bits) 0 l.i

@@ -1,4 +1,3 @@
-use Prim.Native.Nat.{◌≤◌, ◌-◌}
 use lib.IntN.{pos, ◌-ℤ◌}
 use Rattle.rules.specs.Levels.{byte}
 use Rattle.rules.specs.Nodes.{outgoing}
@@ -7,7 +6,4 @@ use Rattle.nodes.specs.Magnitudes.{offsets}
 use Rattle.variable_nodes.proofs.put_messages.Given as goal
 
 abbrev pub invariant-loop-k : goal.invariant-loop-k
-invariant-loop-k l = (l.k ≤ 35) × Filled (λ j. byte (outgoing l.most (offsets l.phi_s l.phi_a l.phi_0) (pos j -ℤ pos 17))) l.initial.messages l.messages l.k
-
-abbrev pub decreases-loop-k : goal.decreases-loop-k
-decreases-loop-k l = 35 - l.k
+invariant-loop-k l = Filled (λ j. byte (outgoing l.most (offsets l.phi_s l.phi_a l.phi_0) (pos j -ℤ pos 17))) l.initial.messages l.messages l.k

@@ -8,4 +8,4 @@ use Rattle.words.proofs.position.Goals as goal
 
 pub returns : goal.returns
 unfolding word
-returns c = let a = c.args in omega (arith, c.join16.ensures, ap (λ (j : ℕ). get_or a.positions.now j 0) (add-one (2 * a.k)))
+returns c = let a = c.args in omega (arith, c.from_le_bytes.ensures, ap (λ (j : ℕ). get_or a.positions.now j 0) (add-one (2 * a.k)))
