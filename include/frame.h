@@ -22,8 +22,8 @@ extern "C" {
 #endif
 
 /* How many bytes of stack a call or its companion takes at most, beside its caller's. Measured on x86-64 on a graph of the most variables, checks
-   and entries: decode 1,752, begin 712, advance 1,704 and a pair 2,392, which FRAME_DECODE_STACK is for too, reading a sheet 520, writing one 376,
-   reading a block sheet 1,016, writing one 224, encode 568. No list of a call grows with the graph: the compiled calls have frames of fixed size, and recurse
+   and entries: decode 1,960, begin 808, advance 1,896 and a pair 2,744, which FRAME_DECODE_STACK is for too, reading a sheet 552, writing one 408,
+   reading a block sheet 968, writing one 256, encode 584. No list of a call grows with the graph: the compiled calls have frames of fixed size, and recurse
    only for the seven digits of a count of 1,000,000. Not counted is what a loader takes where it looks up memcpy or memset at their first call,
    some 3,000 bytes; link with -z now to have them looked up beforehand. */
 enum { FRAME_DECODE_STACK = 4096, FRAME_READ_SHEET_STACK = 2048, FRAME_WRITE_SHEET_STACK = 2048, FRAME_READ_BLOCKS_STACK = 2048,

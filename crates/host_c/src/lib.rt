@@ -1,4 +1,4 @@
-// The library for C: each entry of `host`, with its clause, under its name in frame.h.
+// The library for C: each entry of `host` under its name in frame.h, on numbers and lists, with its promise said of these.
 #![tactic(auto)]
 
 ghost use Rattle.std.specs.Prelude.{length};

@@ -3,10 +3,10 @@
 
 ghost use Rattle.std.specs.Prelude.{◌≡◌};
 ghost use Rattle.refusals.specs.Refusals.{paper};
-ghost use Rattle.interface.specs.Packing.{scaling_of, pack_decoded, place_of, Small};
+ghost use Rattle.interface.specs.Packing.{scaling_of, verdict_of, pack_decoded, place_of, Small};
 
 use refusals::Refusal;
-use rules::Report;
+use rules::{Report, Verdict};
 use settings::Scaling;
 
 pub mod sheets; // of code sheets
@@ -31,6 +31,13 @@ pub(crate) fn number_of(refusal: Refusal) -> u64
     u64::from(refusal.numbered().number)
 }
 
+// The number of a verdict.
+pub fn verdict_of(verdict: Verdict) -> u64
+    ensures { result ≡ verdict_of verdict }
+{
+    verdict as u64
+}
+
 // The answer of decode as one number.
 pub fn pack_decoded(answer: Result<Report, Refusal>) -> u64
     requires { Small answer }
@@ -39,7 +46,7 @@ pub fn pack_decoded(answer: Result<Report, Refusal>) -> u64
     match answer {
         Err(refusal) => number_of(refusal),
         Ok(report) => {
-            256 * (report.verdict as u64)
+            256 * verdict_of(report.verdict)
                 + 65536 * (report.iterations as u64)
                 + 4294967296 * (report.unsatisfied as u64)
         }

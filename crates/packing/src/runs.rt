@@ -1,16 +1,23 @@
 // The answers of a run that pauses. The record is the answer itself.
 ghost use Rattle.std.specs.Prelude.{◌≡◌};
-ghost use Rattle.interface.specs.Runs.{pack_run, pack_begun, pack_advanced, unpacked, SmallRun, SmallBegun, SmallAdvanced};
+ghost use Rattle.interface.specs.Runs.{standing_number, pack_run, pack_begun, pack_advanced, unpacked, SmallRun, SmallBegun, SmallAdvanced};
 
 use pausing::{Advanced, Run, Standing};
 use refusals::Refusal;
+
+// The number of a standing.
+pub fn standing_number(standing: Standing) -> u64
+    ensures { result ≡ standing_number standing }
+{
+    standing as u64
+}
 
 // A record as one number.
 pub fn pack_run(run: Run) -> u64
     requires { SmallRun run }
     ensures { result ≡ pack_run run }
 {
-    256 * (run.standing as u64)
+    256 * standing_number(run.standing)
         + 65536 * (run.iterations as u64)
         + 4294967296 * (run.unsatisfied as u64)
 }

@@ -5,16 +5,23 @@ ghost use Rattle.std.specs.Prelude.{◌≡◌, ◌+◌, ◌≤◌, length};
 ghost use Rattle.words.specs.Words.{stored};
 ghost use Rattle.decoding.specs.Frames.{memory};
 ghost use Rattle.decoding.specs.Pairing.Pairs.{heads_lent};
-ghost use Rattle.interface.specs.Pairs.{pack_refused, RefusesShort, ReportsPair};
+ghost use Rattle.interface.specs.Pairs.{party_number, pack_refused, RefusesShort, ReportsPair};
 
 use decoding::{Heads, Party, Room};
 use refusals::Refusal;
+
+// The number of whose a refusal is.
+pub fn party_number(party: Party) -> u64
+    ensures { result ≡ party_number party }
+{
+    party as u64
+}
 
 // A refusal and whose it is as one number.
 pub fn pack_refused(party: Party, refusal: Refusal) -> u64
     ensures { result ≡ pack_refused party refusal }
 {
-    u64::from(refusal.numbered().number) + 256 * (party as u64)
+    u64::from(refusal.numbered().number) + 256 * party_number(party)
 }
 
 // Puts a number into the eight bytes from byte k on.

@@ -1,6 +1,6 @@
 -- The loop of a run: from whatever state it goes on, each turn is one iteration more, and it ends where the run halts.
 use mathlib.Core.Path.{◌≡◌, refl, sym, ap, ap₂, ◌∙◌, subst}
-use mathlib.Core.Bool.{Bool, true, false, ◌||◌, true≢false}
+use mathlib.Core.Bool.{Bool, true, false, cond, ◌||◌, true≢false}
 use mathlib.Core.List.{List}
 use Prim.Native.Nat.{ℕ, zero, suc, ◌+◌, ◌-◌, ◌≤◌, ◌<◌}
 use native.Mathlib.Numerals.{add-one}
@@ -19,6 +19,10 @@ use Rattle.steps.proofs.Running.{bits_of}
 or_none : (a b : Bool) → a || b ≡ false → (a ≡ false) × (b ≡ false)
 or_none true b h = absurd (true≢false h)
 or_none false b h = (refl, h)
+
+-- what is sent where the run goes on
+pub sent_on : {w : Bool} (q q' : List ℕ) {q₁ : List ℕ} → w ≡ false → q₁ ≡ cond w q q' → q₁ ≡ q'
+sent_on q q' o e = e ∙ ap (λ b. cond b q q') o
 
 module _ (G : Graph) (R : Scheme) (limit N : ℕ) where
   -- k iterations after the state σ the run is in iteration t and open, and q holds what is sent there

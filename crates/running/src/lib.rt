@@ -45,10 +45,9 @@ fn iterations(
             sums,
             bits,
         );
-        if steps::halts(t + 1, end, graph, bits) {
-            return t + 1;
-        }
+        let over = steps::halts(t + 1, end, graph, bits);
         steps::send(
+            over,
             t + 1 - begun,
             settings,
             graph.columns,
@@ -58,6 +57,9 @@ fn iterations(
             &mut messages,
             variable_messages,
         );
+        if over {
+            return t + 1;
+        }
     }
     // The last turn halts.
     end

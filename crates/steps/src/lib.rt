@@ -1,7 +1,7 @@
 // The steps of a run, on memory of exactly the right lengths.
 #![tactic(auto)]
 
-ghost use Rattle.std.specs.Prelude.{◌≡◌, ◌||◌, ℕ, ◌+◌, ◌-◌, ◌/◌, ◌^◌, ◌≤◌, ◌<◌, eqb, pos, nat_abs, length, replicate};
+ghost use Rattle.std.specs.Prelude.{◌≡◌, false, cond, ◌||◌, ℕ, ◌+◌, ◌-◌, ◌/◌, ◌^◌, ◌≤◌, ◌<◌, eqb, pos, nat_abs, length, replicate};
 ghost use Rattle.rules.specs.Ranges.{tabulate};
 ghost use Rattle.rules.specs.Levels.{largest};
 ghost use Rattle.rules.specs.Graphs as Graphs;
@@ -97,8 +97,10 @@ pub fn halts(t: usize, end: usize, graph: Graph, bits: &[u8]) -> bool
     t == end || syndrome::is_codeword(graph, bits)
 }
 
-// The last step of the k-th iteration since a run began or went on: the variable messages, by the lists of parts and messages.
+// The last step of the k-th iteration since a run began or went on, which is not done where the run halts: the variable messages, by the lists of
+// parts and messages.
 pub fn send(
+    halted: bool,
     k: usize,
     settings: Settings,
     columns: &[u8],
@@ -112,17 +114,19 @@ pub fn send(
     requires check_messages_len { (length check_messages.now ≡ length columns.now / wide) × (length variable_messages.old ≡ length check_messages.now) }
     requires by_index { (e : ℕ) → e < length check_messages.now → column_at columns.now e < length sums.now / 4 }
     requires by_index_2 { (v : ℕ) → v < length sums.now / 4 → nat_abs (sum_at sums.now v) < 2 ^ 30 }
-    ensures { (list.new ≡ messages_under settings) × (variable_messages.new ≡ tabulate (sent_by parts.now list.new (column_at columns.now) sums.now check_messages.now) (length check_messages.now)) }
+    ensures { (halted ≡ false → list.new ≡ messages_under settings) × (variable_messages.new ≡ cond halted variable_messages.old (tabulate (sent_by parts.now list.new (column_at columns.now) sums.now check_messages.now) (length check_messages.now))) }
 {
-    messages(k, settings, list);
-    variable_nodes::variable_nodes(
-        columns,
-        check_messages,
-        sums,
-        parts,
-        list,
-        variable_messages,
-    );
+    if !halted {
+        messages(k, settings, list);
+        variable_nodes::variable_nodes(
+            columns,
+            check_messages,
+            sums,
+            parts,
+            list,
+            variable_messages,
+        );
+    }
 }
 
 // The posterior sums, from levels and check messages: what the sums were is not read.
@@ -164,6 +168,7 @@ pub fn resume(
     add_up(graph, levels, degrees, &counts, check_messages, sums);
     let mut messages = [0u8; 35];
     send(
+        false,
         1,
         settings,
         graph.columns,

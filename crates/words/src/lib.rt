@@ -28,6 +28,20 @@ pub fn store32(b: &mut [u8], k: usize, x: u32)
     b[k..k + 4].copy_from_slice(&x.to_le_bytes());
 }
 
+// The i32 of a bit pattern.
+pub fn signed_of(bits: u32) -> i32
+    ensures { result ≡ to_z w32 bits }
+{
+    bits.cast_signed()
+}
+
+// The bit pattern of an i32.
+pub fn bits_of(x: i32) -> u32
+    ensures { result ≡ of_z w32 x }
+{
+    x.cast_unsigned()
+}
+
 // The f32 of a bit pattern. Every NaN pattern gives the NaN.
 pub fn float_of(bits: u32) -> f32
     ensures { result ≡ of_bits binary32 bits }
@@ -140,7 +154,7 @@ pub fn sum(sums: &[u8], v: usize) -> i32
     requires { v < length sums.now / 4 }
     ensures { result ≡ sum_at sums.now v }
 {
-    word32(sums, 4 * v).cast_signed()
+    signed_of(word32(sums, 4 * v))
 }
 
 // Makes x the sum of variable v.
@@ -148,7 +162,7 @@ pub fn put_sum(sums: &mut [u8], v: usize, x: i32)
     requires { v < length sums.old / 4 }
     ensures { sums.new ≡ stored 4 sums.old (4 * v) (of_z w32 x) }
 {
-    store32(sums, 4 * v, x.cast_unsigned());
+    store32(sums, 4 * v, bits_of(x));
 }
 
 // The bit pattern of channel value v.

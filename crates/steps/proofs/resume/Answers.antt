@@ -30,4 +30,4 @@ returns c =
     let a = c.args in
     let z = c.requires.admissible.1 in
     λ σ given. resumed_sends a.graph.variables a.graph.starts.now a.graph.columns.now z.admitted _ _ _ (small_under c.requires.admissible.0) a.levels.now given (λ h. omega (arith, c.if-t-eq0.false)) c.parts.ensures
-    (parts_under_lem c.requires.admissible.0 c.args.t c.parts.ensures) c.send.ensures.0 c.add_up.ensures (c.send.ensures.1 ∙ ap (tabulate _) z.check_messages)
+    (parts_under_lem c.requires.admissible.0 c.args.t c.parts.ensures) (c.send.ensures.0 refl) c.add_up.ensures (c.send.ensures.1 ∙ ap (tabulate _) z.check_messages)
